@@ -1,0 +1,4 @@
+pub mod Field
+pub mod Strings
+pub mod KeyWords
+pub mod Widths

@@ -1,0 +1,29 @@
+-- `aes::expand` meets its contract.
+-- Assumes nothing.
+use mathlib.Core.Path.{_≡_, sym, _∙_}
+use native.Mathlib.Omega.{arith}
+use lib.ListN.{length}
+use borrow.Author.Needs.{needs}
+use Rattle.aes.specs.Aes.{expansion}
+use Rattle.aes.proofs.Widths.{Width, width}
+use Rattle.aes.proofs.expand.Statement.{statement}
+use Rattle.aes.proofs.expand.Tie as tie
+
+is-width-requires : tie.Need-is-width-requires
+is-width-requires c κs = search needs
+
+schedule-requires : tie.Need-schedule-requires
+schedule-requires c κs =
+    let w : Width (length (c .before .before .before .args .key .now)) = width _ (sym (c .before .is-width .ensures) ∙ c .if1 .taken) in
+    (search needs, omega arith, omega arith, omega arith)
+
+returns : tie.Need-returns
+unfolding expansion
+returns c = simp (sym (c .before .before .is-width .ensures) ∙ c .before .if1 .taken, c .schedule .ensures)
+
+returns-2 : tie.Need-returns-2
+unfolding expansion
+returns-2 c = simp (sym (c .before .is-width .ensures) ∙ c .if1 .left)
+
+pub expand-spec : {M : Type 1} → statement M
+expand-spec = tie.close (tie.spec is-width-requires schedule-requires returns returns-2)

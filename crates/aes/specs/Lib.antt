@@ -1,0 +1,6 @@
+pub mod Field
+pub mod Cipher
+pub mod KeyExpansion
+pub mod Tables
+pub mod State
+pub mod Aes

@@ -1,0 +1,34 @@
+-- Byte strings as lists of numbers: xor, writing a part, comparison.
+-- Assumes nothing.
+use mathlib.Core.Bool.{Bool, true, false}
+use mathlib.Core.List.{List, [], _∷_, _++_}
+use Prim.Native.Nat.{ℕ, _+_}
+use lib.Bits.{bitXor}
+use lib.Dec.{eqb}
+use lib.ListN.{length, take, drop}
+
+-- `b` xored into the front of `a`: the result is as long as `a`, what `b` lacks counts as zeros and what it has beyond `a` is left out
+unfoldable pub xors : List ℕ → List ℕ → List ℕ
+xors [] b = []
+xors (x ∷ a) [] = x ∷ a
+xors (x ∷ a) (y ∷ b) = bitXor x y ∷ xors a b
+
+-- `s` written over the bytes of `l` from place `at` on
+unfoldable pub put : List ℕ → ℕ → List ℕ → List ℕ
+put l at s = take at l ++ s ++ drop (at + length s) l
+
+-- `n` bytes of `l` from place `at` on
+abbrev pub part : List ℕ → ℕ → ℕ → List ℕ
+part l at n = take n (drop at l)
+
+-- both tests pass
+abbrev pub both : Bool → Bool → Bool
+both true b = b
+both false b = false
+
+-- whether two strings are the same
+unfoldable pub same : List ℕ → List ℕ → Bool
+same [] [] = true
+same [] (y ∷ b) = false
+same (x ∷ a) [] = false
+same (x ∷ a) (y ∷ b) = both (eqb x y) (same a b)

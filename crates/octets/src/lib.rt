@@ -1,0 +1,85 @@
+// Byte strings: blocks of 16 bytes by value, and parts of lent slices.
+ghost use mathlib.Core.Path.{_≡_};
+ghost use mathlib.Core.List.{_++_};
+ghost use Prim.Native.Nat.{_+_, _≤_};
+ghost use lib.ListN.{length, take, drop, replicate};
+ghost use Rattle.octets.specs.Octets.{xors, put, part, same};
+
+// A block: 16 bytes, byte 0 first.
+pub type Block = [u8; 16];
+
+// Copies all of src to place at of a slice.
+pub fn copy_at(dst: &mut [u8], at: usize, src: &[u8])
+    requires { ⌜ at + length (now src) ≤ length (now dst) ⌝ }
+    ensures { λ _. ⌜ now (dst .exit) ≡ put (now (dst .entry)) at (now (src .entry)) ⌝ }
+{
+    let mut i = 0;
+    while i < src.len() {
+        dst[at + i] = src[i];
+        i += 1;
+    }
+}
+
+// Writes n zeros at place at of a slice.
+pub fn zero_at(dst: &mut [u8], at: usize, n: usize)
+    requires { ⌜ at + n ≤ length (now dst) ⌝ }
+    ensures { λ _. ⌜ now (dst .exit) ≡ put (now (dst .entry)) at (replicate n 0) ⌝ }
+{
+    let mut i = 0;
+    while i < n {
+        dst[at + i] = 0;
+        i += 1;
+    }
+}
+
+// Writes all of src, xored with the front of mask, at place at of a slice.
+pub fn xor_at(dst: &mut [u8], at: usize, src: &[u8], mask: &[u8])
+    requires { ⌜ (at + length (now src) ≤ length (now dst)) × (length (now src) ≤ length (now mask)) ⌝ }
+    ensures { λ _. ⌜ now (dst .exit) ≡ put (now (dst .entry)) at (xors (now (src .entry)) (now (mask .entry))) ⌝ }
+{
+    let mut i = 0;
+    while i < src.len() {
+        dst[at + i] = src[i] ^ mask[i];
+        i += 1;
+    }
+}
+
+// The block at place at of a slice.
+pub fn load(src: &[u8], at: usize) -> Block
+    requires { ⌜ at + 16 ≤ length (now src) ⌝ }
+    ensures { λ r. ⌜ r ≡ part (now (src .entry)) at 16 ⌝ }
+{
+    let mut block = [0u8; 16];
+    copy_at(&mut block, 0, &src[at..at + 16]);
+    block
+}
+
+// Writes a block at place at of a slice.
+pub fn store(dst: &mut [u8], at: usize, block: Block)
+    requires { ⌜ at + 16 ≤ length (now dst) ⌝ }
+    ensures { λ _. ⌜ now (dst .exit) ≡ put (now (dst .entry)) at block ⌝ }
+{
+    copy_at(dst, at, &block);
+}
+
+// The xor of two blocks.
+pub fn xor_block(a: Block, b: Block) -> Block
+    ensures { λ r. ⌜ r ≡ xors a b ⌝ }
+{
+    let mut r = [0u8; 16];
+    xor_at(&mut r, 0, &a, &b);
+    r
+}
+
+// Whether two blocks are the same; every byte is looked at.
+pub fn same_block(a: Block, b: Block) -> bool
+    ensures { λ r. ⌜ r ≡ same a b ⌝ }
+{
+    let mut diff: u8 = 0;
+    let mut i = 0;
+    while i < 16 {
+        diff = diff | (a[i] ^ b[i]);
+        i += 1;
+    }
+    diff == 0
+}
