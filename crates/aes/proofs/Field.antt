@@ -4,7 +4,7 @@ use mathlib.Core.Path.{_≡_, refl}
 use mathlib.Core.List.{List}
 use mathlib.Core.Bool.{true}
 use Prim.Native.Nat.{ℕ, _+_, _*_, _/_, _%_, _<_}
-use lib.Bits.{bitXor}
+use lib.Bits.{bitXor, bitAnd}
 use lib.Dec.{eqb}
 use lib.ListN.{getD}
 use Rattle.octets.proofs.Tests.{all, agree}
@@ -14,6 +14,13 @@ use Rattle.aes.specs.Tables.{Ready, Powers}
 -- a table that passes the test is the S-box
 pub ready : (table : List ℕ) → all (λ k. eqb (getD table k 0) (sbox k)) 256 ≡ true → Ready table
 ready table e = record { rule = agree 256 (λ k. getD table k 0) sbox e }
+
+-- the top bit of a byte, and the others
+pub top-bit : (b : ℕ) → b < 256 → bitAnd b 128 ≡ b / 128 * 128
+top-bit = agree 256 (λ k. bitAnd k 128) (λ k. k / 128 * 128) refl
+
+pub low-bits : (b : ℕ) → b < 256 → bitXor b (bitAnd b 128) ≡ b % 128
+low-bits = agree 256 (λ k. bitXor k (bitAnd k 128)) (λ k. k % 128) refl
 
 -- the code's way to double a byte
 pub twice-mul : (b : ℕ) → b < 256 → bitXor (b % 128 * 2) (b / 128 * 27) ≡ mul 2 b

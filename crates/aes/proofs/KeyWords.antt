@@ -10,10 +10,10 @@ use lib.ListN.{length, getD, drop, replicate, length-append, length-replicate, L
 use borrow.Author.Tests.{eq-eqb, ne-eqb, lt-ltb}
 use Rattle.octets.specs.Octets.{xors, put}
 use Rattle.octets.proofs.Strings.{length-xors, put-put}
-use Rattle.aes.specs.declared.Column.{Column}
 use Rattle.aes.specs.Field.{sbox, power}
 use Rattle.aes.specs.KeyExpansion.{word, temp, nextWord, schedule, keyExpansion, roundKeys}
-use Rattle.aes.specs.State.{wordOf, ColumnIs}
+use Rattle.aes.specs.State.{bytesOfWord, WordIs}
+use Rattle.aes.proofs.Words.{own, word-is, word-xor, word-bytes}
 
 -- ---- how often a key's length goes into a word's number
 
@@ -23,29 +23,32 @@ turn-low nk i h k = le-div-iff-mul-le {k = nk} {x = 1} {y = i} (omega arith) .1 
 pub turn-high : (nk i : ℕ) → 4 ≤ nk → i < 4 * nk + 28 → i / nk < 11
 turn-high nk i h k = div-lt-iff-lt-mul {k = nk} {x = i} {y = 11} (omega arith) .1 (omega arith)
 
--- ---- the three ways to make `temp`
+-- ---- the ways to make `temp`
 
-pub temp-turn : (nk i : ℕ) (before s : Column) (x : ℕ) → i % nk ≡ 0
-    → ColumnIs (sbox (before .b1)) (sbox (before .b2)) (sbox (before .b3)) (sbox (before .b0)) s → x ≡ power 2 (i / nk - 1)
-    → _≡_ {A = List ℕ} (bitXor (s .b0) x ∷ s .b1 ∷ s .b2 ∷ s .b3 ∷ []) (temp nk i (wordOf before))
-unfolding temp xors
-temp-turn nk i before s x e h p =
-    simp (eq-eqb (i % nk) 0 e)
-    (λ j. bitXor (h .row0 j) (p j) ∷ (h .row1 ∙ sym (xor-zero-r _)) j ∷ (h .row2 ∙ sym (xor-zero-r _)) j ∷ (h .row3 ∙ sym (xor-zero-r _)) j ∷ [])
+-- the code xors the round constant into the lowest byte
+constant : {x : ℕ} → x < 256 → WordIs x 0 0 0 x
+constant {x} h = word-is x 0 0 0 x h (omega arith) (omega arith) (omega arith) (omega arith)
 
-pub temp-sub : (nk i : ℕ) (before s : Column) → (i % nk ≡ 0 → ⊥) → 6 < nk → i % nk ≡ 4
-    → ColumnIs (sbox (before .b0)) (sbox (before .b1)) (sbox (before .b2)) (sbox (before .b3)) s → wordOf s ≡ temp nk i (wordOf before)
-unfolding temp
-temp-sub nk i before s n l e h =
-    simp (ne-eqb (i % nk) 0 n, lt-ltb 6 nk l, eq-eqb (i % nk) 4 e) (λ j. h .row0 j ∷ h .row1 j ∷ h .row2 j ∷ h .row3 j ∷ [])
+module _ (nk i a b c d : ℕ) where
+  pub temp-turn : {w s x : ℕ} → i % nk ≡ 0 → WordIs b c d a w
+      → WordIs (sbox (w % 256)) (sbox (w / 256 % 256)) (sbox (w / 65536 % 256)) (sbox (w / 16777216 % 256)) s → x < 256 → x ≡ power 2 (i / nk - 1)
+      → bytesOfWord (bitXor s x) ≡ temp nk i (a ∷ b ∷ c ∷ d ∷ [])
+  unfolding temp xors
+  temp-turn e u h l p =
+      let r = word-bytes (word-xor h (constant l)) in
+      simp (eq-eqb (i % nk) 0 e)
+      (r ∙ λ j. bitXor (sbox (u .row0 j)) (p j) ∷ bitXor (sbox (u .row1 j)) 0 ∷ bitXor (sbox (u .row2 j)) 0 ∷ bitXor (sbox (u .row3 j)) 0 ∷ [])
+
+  pub temp-sub : {s : ℕ} → (i % nk ≡ 0 → ⊥) → 6 < nk → i % nk ≡ 4 → WordIs (sbox a) (sbox b) (sbox c) (sbox d) s
+      → bytesOfWord s ≡ temp nk i (a ∷ b ∷ c ∷ d ∷ [])
+  unfolding temp
+  temp-sub n l e h = simp (ne-eqb (i % nk) 0 n, lt-ltb 6 nk l, eq-eqb (i % nk) 4 e) (word-bytes h)
 
 -- ---- words of the schedule
 
-pub added : (a b : Column) {r : Column}
-    → ColumnIs (bitXor (a .b0) (b .b0)) (bitXor (a .b1) (b .b1)) (bitXor (a .b2) (b .b2)) (bitXor (a .b3) (b .b3)) r
-    → wordOf r ≡ xors (wordOf a) (wordOf b)
+pub added : (v w : ℕ) → bytesOfWord (bitXor v w) ≡ xors (bytesOfWord v) (bytesOfWord w)
 unfolding xors
-added a b h = λ j. h .row0 j ∷ h .row1 j ∷ h .row2 j ∷ h .row3 j ∷ []
+added v w = word-bytes (word-xor (own v) (own w))
 
 -- a byte, a word and the next word of a string that stands at the front of another
 byte-front : (l a : List ℕ) (k : ℕ) → k < length a → getD (put l 0 a) k 0 ≡ getD a k 0

@@ -1,4 +1,4 @@
 pub mod Field
-pub mod Strings
+pub mod Words
 pub mod KeyWords
 pub mod Widths

@@ -1,48 +1,39 @@
--- The cipher's inner state as the code has it, and the string that it stands for.
+-- The cipher's inner state as the code has it: four words, row 0 of a column in the lowest byte of its word.
 -- Assumes nothing.
 use mathlib.Core.Path.{_≡_}
-use mathlib.Core.List.{List, [], _∷_}
-use Prim.Native.Nat.{ℕ}
+use mathlib.Core.List.{List, [], _∷_, _++_}
+use Prim.Native.Nat.{ℕ, _/_, _%_}
 use lib.Bits.{bitXor}
 use Rattle.aes.specs.Field.{mul}
 use Rattle.aes.specs.Cipher.{at}
-use Rattle.aes.specs.declared.Column.{Column}
 use Rattle.aes.specs.declared.State.{State}
+
+-- the string of a word
+abbrev pub bytesOfWord : ℕ → List ℕ
+bytesOfWord w = w % 256 ∷ w / 256 % 256 ∷ w / 65536 % 256 ∷ w / 16777216 % 256 ∷ []
 
 -- the string of a state, column by column
 abbrev pub bytesOf : State → List ℕ
-bytesOf s =
-    s .c0 .b0 ∷ s .c0 .b1 ∷ s .c0 .b2 ∷ s .c0 .b3
-    ∷ s .c1 .b0 ∷ s .c1 .b1 ∷ s .c1 .b2 ∷ s .c1 .b3
-    ∷ s .c2 .b0 ∷ s .c2 .b1 ∷ s .c2 .b2 ∷ s .c2 .b3
-    ∷ s .c3 .b0 ∷ s .c3 .b1 ∷ s .c3 .b2 ∷ s .c3 .b3 ∷ []
+bytesOf s = bytesOfWord (s .c0) ++ (bytesOfWord (s .c1) ++ (bytesOfWord (s .c2) ++ bytesOfWord (s .c3)))
 
--- a word of the key schedule as the code has it, and the string that it stands for
-abbrev pub wordOf : Column → List ℕ
-wordOf a = a .b0 ∷ a .b1 ∷ a .b2 ∷ a .b3 ∷ []
+-- the word w has the bytes a, b, c and d
+pub record WordIs (a b c d w : ℕ) : Type 0 where
+  pub row0 : w % 256 ≡ a
+  pub row1 : w / 256 % 256 ≡ b
+  pub row2 : w / 65536 % 256 ≡ c
+  pub row3 : w / 16777216 % 256 ≡ d
 
--- column c of a string
-abbrev pub columnOf : List ℕ → ℕ → Column
-columnOf s c = record { b0 = at s 0 c; b1 = at s 1 c; b2 = at s 2 c; b3 = at s 3 c }
-
--- the state of a string
-abbrev pub stateOf : List ℕ → State
-stateOf s = record { c0 = columnOf s 0; c1 = columnOf s 1; c2 = columnOf s 2; c3 = columnOf s 3 }
+-- the state r has the bytes of the string s
+pub record StateIs (s : List ℕ) (r : State) : Type 0 where
+  pub column0 : WordIs (at s 0 0) (at s 1 0) (at s 2 0) (at s 3 0) (r .c0)
+  pub column1 : WordIs (at s 0 1) (at s 1 1) (at s 2 1) (at s 3 1) (r .c1)
+  pub column2 : WordIs (at s 0 2) (at s 1 2) (at s 2 2) (at s 3 2) (r .c2)
+  pub column3 : WordIs (at s 0 3) (at s 1 3) (at s 2 3) (at s 3 3) (r .c3)
 
 -- a byte of MixColumns, from the byte of its own row and those of the rows below
 abbrev pub mixedByte : ℕ → ℕ → ℕ → ℕ → ℕ
 mixedByte a b c d = bitXor (bitXor (bitXor (mul 2 a) (mul 3 b)) c) d
 
--- the column r has the bytes a, b, c and d
-pub record ColumnIs (a b c d : ℕ) (r : Column) : Type 0 where
-  pub row0 : r .b0 ≡ a
-  pub row1 : r .b1 ≡ b
-  pub row2 : r .b2 ≡ c
-  pub row3 : r .b3 ≡ d
-
--- the state r has the bytes of the string s
-pub record StateIs (s : List ℕ) (r : State) : Type 0 where
-  pub column0 : ColumnIs (at s 0 0) (at s 1 0) (at s 2 0) (at s 3 0) (r .c0)
-  pub column1 : ColumnIs (at s 0 1) (at s 1 1) (at s 2 1) (at s 3 1) (r .c1)
-  pub column2 : ColumnIs (at s 0 2) (at s 1 2) (at s 2 2) (at s 3 2) (r .c2)
-  pub column3 : ColumnIs (at s 0 3) (at s 1 3) (at s 2 3) (at s 3 3) (r .c3)
+-- the word r is MixColumns of the column with the bytes a, b, c and d
+abbrev pub Mixed : ℕ → ℕ → ℕ → ℕ → ℕ → Type 0
+Mixed a b c d r = WordIs (mixedByte a b c d) (mixedByte b c d a) (mixedByte c d a b) (mixedByte d a b c) r

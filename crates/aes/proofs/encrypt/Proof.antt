@@ -4,10 +4,9 @@ use mathlib.Core.Path.{_≡_, ap, ap₂, _∙_}
 use mathlib.Core.List.{List}
 use Prim.Native.Nat.{ℕ, _-_}
 use borrow.Author.Needs.{needs}
-use Rattle.aes.specs.declared.State.{State}
 use Rattle.aes.specs.Cipher.{addRoundKey, shiftRows, subBytes, roundKey, rounds, roundCount, cipher}
 use Rattle.aes.specs.State.{bytesOf}
-use Rattle.aes.proofs.Strings.{bytes}
+use Rattle.aes.proofs.Words.{state-bytes}
 use Rattle.aes.proofs.encrypt.Statement.{statement}
 use Rattle.aes.proofs.encrypt.Tie as tie
 
@@ -45,8 +44,8 @@ returns c =
     let start = ended .before .before .before .before in
     let keys = start .args .keys .now in
     let whitened : bytesOf (ended .before .add .result) ≡ addRoundKey (roundKey keys 0) (start .args .block) =
-    bytes _ (ended .before .add .ensures)
-    ∙ ap₂ addRoundKey (ended .before .before .round-key .ensures) (ap (λ (s : State). bytesOf s) (ended .before .before .before .state-of .ensures)) in
+    ended .before .add .ensures
+    ∙ ap₂ addRoundKey (ended .before .before .round-key .ensures) (state-bytes _ (ended .before .before .before .state-of .ensures)) in
     c .block-of .ensures
     ∙ c .before .last-round .ensures
     ∙ ap₂ (λ (k s : List ℕ). addRoundKey k (shiftRows (subBytes s))) (c .before .before .round-key2 .ensures)

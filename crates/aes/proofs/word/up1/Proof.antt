@@ -1,0 +1,18 @@
+-- `aes::word::up1` meets its contract.
+-- Assumes nothing.
+use borrow.Author.Needs.{needs}
+use Rattle.aes.proofs.Words.{own, up1-is}
+use Rattle.aes.proofs.word.up1.Statement.{statement}
+use Rattle.aes.proofs.word.up1.Tie as tie
+
+mul-result : tie.Need-mul-result
+mul-result c = search needs
+
+add-result : tie.Need-add-result
+add-result c = search needs
+
+returns : tie.Need-returns
+returns c = up1-is (c .fits .w .fits) (own (c .args .w))
+
+pub up1-spec : {M : Type 1} → statement M
+up1-spec = tie.close (tie.spec mul-result add-result returns)
