@@ -1,19 +1,27 @@
 -- Laws of the key expansion.
 -- Assumes nothing.
 use mathlib.Core.Path.{_≡_, refl, ap, ap₂, sym, _∙_}
+use mathlib.Core.Bool.{true}
 use mathlib.Core.List.{List, [], _∷_, _++_}
 use Prim.Native.Nat.{ℕ, suc, _+_, _-_, _*_, _/_, _%_, _≤_, _<_}
 use native.Mathlib.Nat.{le-div-iff-mul-le, div-lt-iff-lt-mul}
 use native.Mathlib.Omega.{arith}
 use lib.Bits.{bitXor, xor-zero-r}
+use lib.Dec.{eqb}
 use lib.ListN.{length, getD, drop, replicate, length-append, length-replicate, List·getD-append}
 use borrow.Author.Tests.{eq-eqb, ne-eqb, lt-ltb}
 use Rattle.octets.specs.Octets.{xors, put}
+use Rattle.octets.proofs.Tests.{all, agree}
 use Rattle.octets.proofs.Strings.{length-xors, put-put}
-use Rattle.aes.specs.Field.{sbox, power}
+use Rattle.field.specs.Field.{sbox, power}
 use Rattle.aes.specs.KeyExpansion.{word, temp, nextWord, schedule, keyExpansion, roundKeys}
 use Rattle.aes.specs.State.{bytesOfWord, WordIs}
+use Rattle.aes.specs.Tables.{Powers}
 use Rattle.aes.proofs.Words.{own, word-is, word-xor, word-bytes}
+
+-- a table that passes the test has the powers of 02
+pub powers : (table : List ℕ) → all (λ k. eqb (getD table k 0) (power 2 k)) 10 ≡ true → Powers table
+powers table e = record { rule = agree 10 (λ k. getD table k 0) (power 2) e }
 
 -- ---- how often a key's length goes into a word's number
 

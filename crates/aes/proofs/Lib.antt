@@ -1,4 +1,3 @@
-pub mod Field
 pub mod Words
 pub mod KeyWords
 pub mod Widths

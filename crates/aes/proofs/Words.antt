@@ -9,9 +9,9 @@ use lib.Bits.{bitXor, bitAnd, xor-shr, xor-mod, and-shr, and-mod, and-le-l, xor-
 use lib.ListN.{length}
 use Rattle.octets.proofs.Strings.{entries, entries-all}
 use Rattle.aes.specs.declared.State.{State}
-use Rattle.aes.specs.Field.{mul}
+use Rattle.field.specs.Field.{mul}
 use Rattle.aes.specs.State.{bytesOfWord, bytesOf, WordIs, StateIs, mixedByte, Mixed}
-use Rattle.aes.proofs.Field.{top-bit, low-bits, twice-mul, thrice-mul}
+use Rattle.field.proofs.Laws.{top-bit, low-bits, twice-mul, thrice-mul}
 
 -- ---- an operation on bits works on each byte by itself
 

@@ -5,7 +5,7 @@ use Prim.Native.Nat.{ℕ, zero, suc, _+_, _-_, _*_, _/_, _%_}
 use lib.Bits.{bitXor}
 use lib.ListN.{getD}
 use Rattle.octets.specs.Octets.{part}
-use Rattle.aes.specs.Field.{mul, sbox}
+use Rattle.field.specs.Field.{mul, sbox}
 
 -- 3.4, the state: byte r + 4c of the string is in row r and column c
 abbrev pub at : List ℕ → ℕ → ℕ → ℕ

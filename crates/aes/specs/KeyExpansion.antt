@@ -6,7 +6,7 @@ use Prim.Native.Nat.{ℕ, zero, suc, _+_, _-_, _*_, _/_, _%_}
 use lib.Dec.{ltb, eqb}
 use lib.ListN.{getD, length, replicate}
 use Rattle.octets.specs.Octets.{xors, put, both}
-use Rattle.aes.specs.Field.{power, sbox}
+use Rattle.field.specs.Field.{power, sbox}
 
 -- the first string where the test passes, else the second
 abbrev pub pickString : Bool → List ℕ → List ℕ → List ℕ

@@ -1,4 +1,3 @@
-pub mod Field
 pub mod Cipher
 pub mod KeyExpansion
 pub mod Tables

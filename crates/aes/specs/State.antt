@@ -4,7 +4,7 @@ use mathlib.Core.Path.{_≡_}
 use mathlib.Core.List.{List, [], _∷_, _++_}
 use Prim.Native.Nat.{ℕ, _/_, _%_}
 use lib.Bits.{bitXor}
-use Rattle.aes.specs.Field.{mul}
+use Rattle.field.specs.Field.{mul}
 use Rattle.aes.specs.Cipher.{at}
 use Rattle.aes.specs.declared.State.{State}
 

@@ -4,11 +4,11 @@ use mathlib.Core.Path.{_≡_}
 use mathlib.Core.List.{List}
 use Prim.Native.Nat.{ℕ, _<_}
 use lib.ListN.{getD}
-use Rattle.aes.specs.Field.{power, sbox}
+use Rattle.field.specs.Field.{power, IsSbox}
 
 -- the engine holds the S-box
 pub record Ready (engine : List ℕ) : Type 0 where
-  pub rule : (b : ℕ) → b < 256 → getD engine b 0 ≡ sbox b
+  pub table : IsSbox engine
 
 -- the table holds the powers of 02 that the round constants are made of
 pub record Powers (table : List ℕ) : Type 0 where

@@ -1,7 +1,6 @@
 // AES as FIPS 197 has it, forward only: keys of 16, 24 and 32 bytes.
 mod round;
 mod schedule;
-mod tables;
 mod word;
 
 ghost use mathlib.Core.Path.{_≡_};
@@ -12,7 +11,7 @@ ghost use Rattle.aes.specs.Tables.{Ready};
 use octets::Block;
 
 // What the cipher is lent besides round keys: made once in an outermost call, and lent from there.
-pub type Engine = [u8; 256];
+pub type Engine = field::Sbox;
 
 // The round keys of all rounds.
 pub type RoundKeys = [u8; 240];
@@ -42,7 +41,7 @@ pub struct Expansion {
 pub fn engine() -> Engine
     ensures { λ r. ⌜ Ready r ⌝ }
 {
-    tables::SBOX
+    field::sbox()
 }
 
 // The cipher of a block at a key width, under any round keys.

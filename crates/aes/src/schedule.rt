@@ -3,19 +3,21 @@ ghost use mathlib.Core.Path.{_≡_};
 ghost use Prim.Native.Nat.{_+_, _*_, _≤_, _<_};
 ghost use lib.ListN.{length};
 ghost use Rattle.octets.specs.Octets.{put};
-ghost use Rattle.aes.specs.Field.{power};
+ghost use Rattle.field.specs.Field.{power};
 ghost use Rattle.aes.specs.KeyExpansion.{word, temp, nextWord, roundKeys};
 ghost use Rattle.aes.specs.State.{bytesOfWord};
 ghost use Rattle.aes.specs.Tables.{Ready, Powers};
 use crate::Engine;
 use crate::RoundKeys;
-use crate::tables;
 use crate::word;
+
+// Table 5: the first bytes of the round constants, from constant 1 on.
+const ROUND_CONSTANTS: [u8; 10] = [0x01, 0x02, 0x04, 0x08, 0x10, 0x20, 0x40, 0x80, 0x1b, 0x36];
 
 fn round_constants() -> [u8; 10]
     ensures { λ r. ⌜ Powers r ⌝ }
 {
-    tables::ROUND_CONSTANTS
+    ROUND_CONSTANTS
 }
 
 // The first byte of round constant n + 1.

@@ -2,7 +2,7 @@
 ghost use mathlib.Core.Path.{_≡_};
 ghost use Prim.Native.Nat.{_/_, _%_};
 ghost use lib.Bits.{bitXor};
-ghost use Rattle.aes.specs.Field.{mul, sbox};
+ghost use Rattle.field.specs.Field.{mul, sbox};
 ghost use Rattle.aes.specs.State.{bytesOfWord, WordIs, Mixed};
 ghost use Rattle.aes.specs.Tables.{Ready};
 use crate::Engine;

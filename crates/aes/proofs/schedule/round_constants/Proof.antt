@@ -1,8 +1,8 @@
 -- `aes::schedule::round_constants` meets its contract: its table passes the test for the powers of 02.
 -- Assumes nothing.
 use mathlib.Core.Path.{refl}
-use Rattle.aes.specs.Field.{power, mul, products, xtimes}
-use Rattle.aes.proofs.Field.{powers}
+use Rattle.field.specs.Field.{power, mul, products, xtimes}
+use Rattle.aes.proofs.KeyWords.{powers}
 use Rattle.aes.proofs.schedule.round_constants.Statement.{statement}
 use Rattle.aes.proofs.schedule.round_constants.Tie as tie
 

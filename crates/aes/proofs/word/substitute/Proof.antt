@@ -8,7 +8,7 @@ element-copy-out-result : tie.Need-element-copy-out-result
 element-copy-out-result c = search needs
 
 returns : tie.Need-returns
-returns c = c .before .pre .rule (c .before .args .b) (c .before .fits .b .fits)
+returns c = c .before .pre .table .rule (c .before .args .b) (c .before .fits .b .fits)
 
 pub substitute-spec : {M : Type 1} → statement M
 substitute-spec = tie.close (tie.spec element-copy-out-result returns)

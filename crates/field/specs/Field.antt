@@ -1,9 +1,12 @@
 -- FIPS 197, section 4: bytes as elements of the field of 256, and the S-box of section 5.1.1.
 -- Assumes nothing.
+use mathlib.Core.Path.{_≡_}
+use mathlib.Core.List.{List}
 use mathlib.Core.Bool.{Bool, true, false}
-use Prim.Native.Nat.{ℕ, zero, suc, _+_, _*_, _/_, _%_, _^_}
+use Prim.Native.Nat.{ℕ, zero, suc, _+_, _*_, _/_, _%_, _^_, _<_}
 use lib.Bits.{bitXor}
 use lib.Dec.{ltb, eqb}
+use lib.ListN.{getD}
 
 -- the first number where the test passes, else the second
 abbrev pub pick : Bool → ℕ → ℕ → ℕ
@@ -56,3 +59,7 @@ affine b = fromBits (λ i. (bit b i + bit b ((i + 4) % 8) + bit b ((i + 5) % 8) 
 -- 5.1.1, the S-box
 unfoldable pub sbox : ℕ → ℕ
 sbox b = affine (inverse b)
+
+-- the table holds the S-box
+pub record IsSbox (table : List ℕ) : Type 0 where
+  pub rule : (b : ℕ) → b < 256 → getD table b 0 ≡ sbox b

@@ -1,7 +1,11 @@
-// FIPS 197's tables.
+// The field of FIPS 197, section 4, and the S-box.
+ghost use Rattle.field.specs.Field.{IsSbox};
 
-// Table 4: the S-box.
-pub const SBOX: [u8; 256] = [
+// The S-box as a table.
+pub type Sbox = [u8; 256];
+
+// FIPS 197, table 4.
+const TABLE: Sbox = [
     0x63,
     0x7c,
     0x77,
@@ -260,5 +264,9 @@ pub const SBOX: [u8; 256] = [
     0x16,
 ];
 
-// Table 5: the first bytes of the round constants.
-pub const ROUND_CONSTANTS: [u8; 10] = [0x01, 0x02, 0x04, 0x08, 0x10, 0x20, 0x40, 0x80, 0x1b, 0x36];
+// The S-box, for a caller to keep and to lend: each call lays the table out anew.
+pub fn sbox() -> Sbox
+    ensures { λ r. ⌜ IsSbox r ⌝ }
+{
+    TABLE
+}

@@ -8,12 +8,11 @@ use lib.Bits.{bitXor, bitAnd}
 use lib.Dec.{eqb}
 use lib.ListN.{getD}
 use Rattle.octets.proofs.Tests.{all, agree}
-use Rattle.aes.specs.Field.{pick, sbox, inverse, squares, power, mul, products, xtimes}
-use Rattle.aes.specs.Tables.{Ready, Powers}
+use Rattle.field.specs.Field.{pick, sbox, IsSbox, inverse, squares, mul, products, xtimes}
 
 -- a table that passes the test is the S-box
-pub ready : (table : List ℕ) → all (λ k. eqb (getD table k 0) (sbox k)) 256 ≡ true → Ready table
-ready table e = record { rule = agree 256 (λ k. getD table k 0) sbox e }
+pub is-sbox : (table : List ℕ) → all (λ k. eqb (getD table k 0) (sbox k)) 256 ≡ true → IsSbox table
+is-sbox table e = record { rule = agree 256 (λ k. getD table k 0) sbox e }
 
 -- the top bit of a byte, and the others
 pub top-bit : (b : ℕ) → b < 256 → bitAnd b 128 ≡ b / 128 * 128
@@ -40,7 +39,3 @@ inverse-mul = agree 256 (λ k. mul k (inverse k)) (λ k. pick (eqb k 0) 0 1) ref
 pub inverse-zero : inverse 0 ≡ 0
 unfolding inverse squares mul products xtimes
 inverse-zero = refl
-
--- a table that passes the test has the powers of 02
-pub powers : (table : List ℕ) → all (λ k. eqb (getD table k 0) (power 2 k)) 10 ≡ true → Powers table
-powers table e = record { rule = agree 10 (λ k. getD table k 0) (power 2) e }

@@ -1,0 +1,5 @@
+# make test: all tests, ending in rt ci's 'N passed, 0 failed'.
+.PHONY: test
+
+test:
+	rt ci
