@@ -75,6 +75,10 @@ part-to l at n =
     let count : at + n - at ≡ n = omega arith in
     ap (λ (k : ℕ). take k (drop at l)) count
 
+-- all that is left from a place on, as `&s[at..]` has it
+pub part-rest : (l : List ℕ) (at : ℕ) → part l at (length l - at) ≡ drop at l
+part-rest l at = take-all (length l - at) (drop at l) (simp length-drop (omega arith))
+
 -- n bytes of `l` from place i on, one by one; at a numeral n it computes to the list of them
 abbrev pub entries : ℕ → ℕ → List ℕ → List ℕ
 entries zero i l = []

@@ -1,0 +1,68 @@
+-- CMAC with a 16-byte tag, SP 800-38B, over any block function E.
+-- Assumes nothing.
+use mathlib.Core.Bool.{Bool, true, false}
+use mathlib.Core.List.{List, [], _∷_, _++_}
+use Prim.Native.Nat.{ℕ, zero, suc, _+_, _-_, _*_, _/_, _%_}
+use lib.Dec.{ltb, eqb}
+use lib.ListN.{length, getD, drop, replicate}
+use Rattle.octets.specs.Octets.{xors, part}
+use Rattle.cmac.specs.declared.Subkeys.{Subkeys}
+
+-- the first string where the test passes, else the second
+abbrev pub pickString : Bool → List ℕ → List ℕ → List ℕ
+pickString true a b = a
+pickString false a b = b
+
+-- 16 zeros
+abbrev pub zeros : List ℕ
+zeros = replicate 16 0
+
+-- 4.1: a string moved left by one bit, the bit that falls out lost
+unfoldable pub shifted : List ℕ → List ℕ
+shifted [] = []
+shifted (b ∷ []) = (2 * b % 256) ∷ []
+shifted (b ∷ (c ∷ l)) = (2 * b % 256 + c / 128) ∷ shifted (c ∷ l)
+
+-- 5.3, R for blocks of 128 bits: fifteen zeros, then 87
+abbrev pub remainder : List ℕ
+remainder = replicate 15 0 ++ (0x87 ∷ [])
+
+-- 6.1, and RFC 5297 2.3, dbl: a block doubled
+unfoldable pub double : List ℕ → List ℕ
+double b = pickString (ltb (getD b 0 0) 128) (shifted b) (xors (shifted b) remainder)
+
+-- 6.1, subkey generation: K1 is L doubled, K2 is K1 doubled
+unfoldable pub subkeys : List ℕ → Subkeys
+subkeys l = record { k1 = double l; k2 = double (double l) }
+
+-- 6.2, step 4: a short string, one byte 80, then zeros
+unfoldable pub pad : List ℕ → List ℕ
+pad s = s ++ (0x80 ∷ replicate (15 - length s) 0)
+
+-- 6.2, step 4: the last block, whole or short, as it enters the chain
+unfoldable pub lastBlock : Subkeys → List ℕ → List ℕ
+lastBlock k s = pickString (eqb (length s) 16) (xors s (k .k1)) (xors (pad s) (k .k2))
+
+-- how many blocks stand before the last one; an empty string has one block
+abbrev pub blocksBefore : ℕ → ℕ
+blocksBefore n = (n - 1) / 16
+
+module _ (E : List ℕ → List ℕ) where
+  -- 6.2, steps 5 and 6: the chain from c over the first n blocks of s
+  unfoldable pub chain : List ℕ → List ℕ → ℕ → List ℕ
+  chain c s zero = c
+  chain c s (suc n) = E (xors (chain c s n) (part s (16 * n) 16))
+
+  -- 6.2: CMAC of what was chained to c and then of s
+  unfoldable pub cmacFrom : Subkeys → List ℕ → List ℕ → List ℕ
+  cmacFrom k c s =
+      let n = blocksBefore (length s) in
+      E (xors (chain c s n) (lastBlock k (drop (16 * n) s)))
+
+  -- 6.1, step 1: L is the cipher of the zero block
+  abbrev pub zeroCipher : List ℕ
+  zeroCipher = E zeros
+
+  -- 6.2: CMAC of a string, with a 16-byte tag
+  unfoldable pub cmac : List ℕ → List ℕ
+  cmac s = cmacFrom (subkeys zeroCipher) zeros s
