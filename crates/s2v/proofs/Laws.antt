@@ -1,0 +1,110 @@
+-- Laws of S2V, over any block function E.
+-- Assumes nothing.
+use mathlib.Core.Path.{_≡_, refl, ap, ap₂, sym, _∙_}
+use mathlib.Core.List.{List, [], _∷_, _++_, append-assoc}
+use Prim.Native.Nat.{ℕ, _+_, _-_, _*_, _/_, _%_, _≤_, _<_}
+use native.Mathlib.Decide.{decLt}
+use native.Mathlib.Omega.{arith}
+use lib.ListN.{length, take, drop, length-append, length-drop, take-append-drop}
+use lib.Seq.{take-append-le, length-take-le, take-append-add, drop-append-add}
+use borrow.Author.Tests.{lt-ltb, le-ltb}
+use Rattle.octets.specs.Octets.{xors, put}
+use Rattle.octets.proofs.Strings.{length-xors, length-put, take-put}
+use Rattle.cmac.specs.declared.Subkeys.{Subkeys}
+use Rattle.cmac.specs.Cmac.{zeros, chain, cmacFrom}
+use Rattle.cmac.proofs.Laws.{chain-front, cmac-split}
+use Rattle.s2v.specs.S2v.{xorend, lastString, tailLength, tagFrom, tag}
+
+-- ---- the tail
+
+pub tail-short : (n : ℕ) → n < 16 → tailLength n ≡ n
+unfolding tailLength
+tail-short n h = simp (lt-ltb n 16 h)
+
+pub tail-long : (n : ℕ) → 16 ≤ n → tailLength n ≡ 16 + n % 16
+unfolding tailLength
+tail-long n h = simp (le-ltb n 16 h)
+
+-- a tail is shorter than 32 bytes, and whole blocks stand before it
+pub record Tail (n : ℕ) : Type 0 where
+  pub most : tailLength n ≤ n
+  pub short : tailLength n < 32
+  pub blocks : 16 * ((n - tailLength n) / 16) ≡ n - tailLength n
+
+pub tail : (n : ℕ) → Tail n
+tail n = go (decLt n 16)
+  where
+    go : Dec (n < 16) → Tail n
+    go (yes h) = let e : tailLength n ≡ n = tail-short n h in omega arith
+    go (no h) = let e : tailLength n ≡ 16 + n % 16 = tail-long n (omega arith) in omega arith
+
+-- ---- xor at the end
+
+-- what stands before the last 16 bytes is left alone
+xorend-append : (a q d : List ℕ) → 16 ≤ length q → xorend (a ++ q) d ≡ a ++ xorend q d
+unfolding xorend
+xorend-append a q d h =
+    let place : length (a ++ q) - 16 ≡ length a + (length q - 16) = simp length-append (omega arith) in
+    ap (λ (n : ℕ). take n (a ++ q) ++ xors (drop n (a ++ q)) d) place
+    ∙ ap₂ (λ (x y : List ℕ). x ++ xors y d) (take-append-add a q (length q - 16)) (drop-append-add a q (length q - 16))
+    ∙ append-assoc a (take (length q - 16) q) (xors (drop (length q - 16) q) d)
+
+length-xorend : (q d : List ℕ) → length (xorend q d) ≡ length q
+unfolding xorend
+length-xorend q d =
+    length-append (take (length q - 16) q) (xors (drop (length q - 16) q) d)
+    ∙ omega (arith, length-take-le (length q - 16) q (omega arith), length-xors (drop (length q - 16) q) d, length-drop (length q - 16) q)
+
+front : (z p : List ℕ) (n : ℕ) → n ≤ length p → take n (put z 0 p) ≡ take n p
+unfolding put
+front z p n h = take-append-le n p (drop (0 + length p) z) h
+
+-- the code's way: p copied to the front of a buffer, and its last 16 bytes written again with d xored in
+pub xorend-buffer : (z p d : List ℕ) (at : ℕ) → at + 16 ≡ length p → length p ≤ length z → take (length p) (put (put z 0 p) at (xors (drop at p) d)) ≡ xorend p d
+unfolding xorend
+xorend-buffer z p d at e h =
+    let rest : at + length (xors (drop at p) d) ≡ length p = omega (arith, length-xors (drop at p) d, length-drop at p) in
+    let fits : at + length (xors (drop at p) d) ≤ length (put z 0 p) = omega (arith, length-put z 0 p (omega arith)) in
+    let place : at ≡ length p - 16 = omega arith in
+    ap (λ (n : ℕ). take n (put (put z 0 p) at (xors (drop at p) d))) (sym rest)
+    ∙ take-put (put z 0 p) at (xors (drop at p) d) fits
+    ∙ ap (λ (l : List ℕ). l ++ xors (drop at p) d) (front z p at (omega arith))
+    ∙ ap (λ (n : ℕ). take n p ++ xors (drop n p) d) place
+
+last-long : (d p : List ℕ) → 16 ≤ length p → lastString d p ≡ xorend p d
+unfolding lastString
+last-long d p h = simp (le-ltb (length p) 16 h)
+
+-- ---- the tag from the tail
+
+module _ (E : List ℕ → List ℕ) (k : Subkeys) (d : List ℕ) where
+  -- whole blocks before an end of 16 bytes or more go into the chain first
+  pub tag-split : (a q : List ℕ) (n : ℕ) → length a ≡ 16 * n → 16 ≤ length q → tag E k d (a ++ q) ≡ tagFrom E k d (chain E zeros a n) q
+  unfolding tag tagFrom
+  tag-split a q n e h =
+      ap (cmacFrom E k zeros) (last-long d (a ++ q) (simp length-append (omega arith)) ∙ xorend-append a q d h)
+      ∙ cmac-split E k zeros a (xorend q d) n e (omega (arith, length-xorend q d))
+      ∙ ap (cmacFrom E k (chain E zeros a n)) (sym (last-long d q h))
+
+  -- the tag, by the chain over the blocks before the tail and by the tail
+  pub tag-tail : (p : List ℕ) (at : ℕ) → at ≡ length p - tailLength (length p) → tag E k d p ≡ tagFrom E k d (chain E zeros p (at / 16)) (drop at p)
+  unfolding tag chain
+  tag-tail p at e = go (decLt (length p) 16)
+    where
+      long : 16 ≤ length p → tag E k d p ≡ tagFrom E k d (chain E zeros p (at / 16)) (drop at p)
+      long h =
+          let t : Tail (length p) = tail (length p) in
+          let held : tailLength (length p) ≡ 16 + length p % 16 = tail-long (length p) h in
+          let front : length (take at p) ≡ 16 * (at / 16) = length-take-le at p (omega arith) ∙ omega arith in
+          let joined : take at p ++ drop at p ≡ p = take-append-drop at p in
+          ap (tag E k d) (sym joined)
+          ∙ tag-split (take at p) (drop at p) (at / 16) front (simp length-drop (omega arith))
+          ∙ ap (λ (c : List ℕ). tagFrom E k d c (drop at p))
+          (sym (chain-front E zeros (take at p) (drop at p) (at / 16) (omega arith)) ∙ ap (λ (l : List ℕ). chain E zeros l (at / 16)) joined)
+
+      go : Dec (length p < 16) → tag E k d p ≡ tagFrom E k d (chain E zeros p (at / 16)) (drop at p)
+      go (yes h) =
+          let held : tailLength (length p) ≡ length p = tail-short (length p) h in
+          let front : 0 ≡ at = omega arith in
+          ap (λ (n : ℕ). tagFrom E k d (chain E zeros p (n / 16)) (drop n p)) front
+      go (no h) = long (omega arith)

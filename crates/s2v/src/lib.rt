@@ -1,0 +1,98 @@
+// S2V, RFC 5297 2.4: the header result D and the tag V.
+ghost use mathlib.Core.Path.{_≡_};
+ghost use Prim.Native.Nat.{_+_, _≤_, _<_};
+ghost use lib.ListN.{length};
+ghost use Rattle.aes.specs.Cipher.{cipher};
+ghost use Rattle.aes.specs.Tables.{Ready};
+ghost use Rattle.octets.specs.Octets.{put, xors};
+ghost use Rattle.cmac.specs.Cmac.{cmacFrom, zeros, double, pad};
+ghost use Rattle.s2v.specs.S2v.{xorend, tailLength, tagFrom, tag};
+use aes::Engine;
+use aes::RoundKeys;
+use cmac::Subkeys;
+use octets::Block;
+
+// How many bytes at the end of a plaintext of n bytes wait for its end.
+pub fn tail_len(n: usize) -> usize
+    ensures { λ r. ⌜ r ≡ tailLength n ⌝ }
+{
+    if n < 16 {
+        return n;
+    }
+    16 + n % 16
+}
+
+// V of a short plaintext, or of a short end.
+fn tag_short(
+    engine: &Engine,
+    width: usize,
+    keys: &RoundKeys,
+    k: Subkeys,
+    d: Block,
+    c: Block,
+    p: &[u8],
+) -> Block
+    requires { ⌜ Ready (now engine) × (width ≤ 32) × (length (now p) < 16) ⌝ }
+    ensures { λ r. ⌜ r ≡ cmacFrom (cipher width (now (keys .entry))) k c (xors (double d) (pad (now (p .entry)))) ⌝ }
+{
+    let t = octets::xor_block(cmac::double(d), cmac::pad(p));
+    cmac::cmac_from(engine, width, keys, k, c, &t)
+}
+
+// V of an end of 16 to 31 bytes.
+fn tag_long(
+    engine: &Engine,
+    width: usize,
+    keys: &RoundKeys,
+    k: Subkeys,
+    d: Block,
+    c: Block,
+    p: &[u8],
+) -> Block
+    requires { ⌜ Ready (now engine) × (width ≤ 32) × (16 ≤ length (now p)) × (length (now p) < 32) ⌝ }
+    ensures { λ r. ⌜ r ≡ cmacFrom (cipher width (now (keys .entry))) k c (xorend (now (p .entry)) d) ⌝ }
+{
+    let n = p.len();
+    let at = n - 16;
+    let mut t = [0u8; 32];
+    octets::copy_at(&mut t, 0, p);
+    octets::xor_at(&mut t, at, &p[at..], &d);
+    cmac::cmac_from(engine, width, keys, k, c, &t[0..n])
+}
+
+// V, where c is the chain over the plaintext's blocks before its end.
+pub fn tag_from(
+    engine: &Engine,
+    width: usize,
+    keys: &RoundKeys,
+    k: Subkeys,
+    d: Block,
+    c: Block,
+    p: &[u8],
+) -> Block
+    requires { ⌜ Ready (now engine) × (width ≤ 32) × (length (now p) < 32) ⌝ }
+    ensures { λ r. ⌜ r ≡ tagFrom (cipher width (now (keys .entry))) k d c (now (p .entry)) ⌝ }
+{
+    if p.len() < 16 {
+        return tag_short(engine, width, keys, k, d, c, p);
+    }
+    tag_long(engine, width, keys, k, d, c, p)
+}
+
+// V from D and the plaintext.
+pub fn make_tag(
+    engine: &Engine,
+    width: usize,
+    keys: &RoundKeys,
+    k: Subkeys,
+    d: Block,
+    p: &[u8],
+) -> Block
+    requires { ⌜ Ready (now engine) × (width ≤ 32) ⌝ }
+    ensures { λ r. ⌜ r ≡ tag (cipher width (now (keys .entry))) k d (now (p .entry)) ⌝ }
+{
+    let n = p.len();
+    let at = n - tail_len(n);
+    let c = cmac::chain_blocks(engine, width, keys, [0u8; 16], p, at / 16);
+    tag_from(engine, width, keys, k, d, c, &p[at..])
+}
