@@ -3,17 +3,20 @@
 use mathlib.Core.Path.{_≡_, refl, ap, ap₂, sym, _∙_}
 use mathlib.Core.List.{List, [], _∷_, _++_, append-assoc}
 use Prim.Native.Nat.{ℕ, _+_, _-_, _*_, _/_, _%_, _≤_, _<_}
+use native.Mathlib.Numerals.{add-one}
 use native.Mathlib.Decide.{decLt}
 use native.Mathlib.Omega.{arith}
-use lib.ListN.{length, take, drop, length-append, length-drop, take-append-drop}
+use lib.ListN.{length, getD, take, drop, length-append, length-drop, take-append-drop}
 use lib.Seq.{take-append-le, length-take-le, take-append-add, drop-append-add}
 use borrow.Author.Tests.{lt-ltb, le-ltb}
-use Rattle.octets.specs.Octets.{xors, put}
+use Rattle.octets.specs.Octets.{xors, put, part}
 use Rattle.octets.proofs.Strings.{length-xors, length-put, take-put}
 use Rattle.cmac.specs.declared.Subkeys.{Subkeys}
-use Rattle.cmac.specs.Cmac.{zeros, chain, cmacFrom}
+use Rattle.cmac.specs.Cmac.{zeros, double, chain, cmacFrom}
 use Rattle.cmac.proofs.Laws.{chain-front, cmac-split}
-use Rattle.s2v.specs.S2v.{xorend, lastString, tailLength, tagFrom, tag}
+use Rattle.header.specs.Header.{total, strings}
+use Rattle.header.proofs.Laws.{strings-suc}
+use Rattle.s2v.specs.S2v.{absorbStrings, xorend, lastString, tailLength, tagFrom, tag}
 
 -- ---- the tail
 
@@ -108,3 +111,23 @@ module _ (E : List ℕ → List ℕ) (k : Subkeys) (d : List ℕ) where
           let front : 0 ≡ at = omega arith in
           ap (λ (n : ℕ). tagFrom E k d (chain E zeros p (n / 16)) (drop n p)) front
       go (no h) = long (omega arith)
+
+-- ---- D over the header strings
+
+module _ (E : List ℕ → List ℕ) (k : Subkeys) where
+  -- a list cut in two folds the same
+  pub absorb-append : (d : List ℕ) (a b : List (List ℕ)) → absorbStrings E k d (a ++ b) ≡ absorbStrings E k (absorbStrings E k d a) b
+  unfolding absorbStrings
+  absorb-append d [] b = refl
+  absorb-append d (s ∷ a) b = absorb-append (xors (double d) (cmacFrom E k zeros s)) a b
+
+  -- a turn of the loop: one string more
+  pub absorb-more : (d bytes lens : List ℕ) (i at : ℕ) {before next : List ℕ} → i < length lens → at ≡ total (take i lens)
+      → before ≡ absorbStrings E k d (strings bytes (take i lens))
+      → next ≡ xors (double before) (cmacFrom E k zeros (part bytes at (getD lens i 0))) → next ≡ absorbStrings E k d (strings bytes (take (i + 1) lens))
+  unfolding absorbStrings
+  absorb-more d bytes lens i at {before} h place b e =
+      e
+      ∙ ap₂ (λ (x : List ℕ) (n : ℕ). xors (double x) (cmacFrom E k zeros (part bytes n (getD lens i 0)))) b place
+      ∙ sym (absorb-append d (strings bytes (take i lens)) (part bytes (total (take i lens)) (getD lens i 0) ∷ []))
+      ∙ ap (absorbStrings E k d) (sym (strings-suc lens i h bytes) ∙ ap (λ (n : ℕ). strings bytes (take n lens)) (sym (add-one i)))

@@ -4,13 +4,51 @@ ghost use Prim.Native.Nat.{_+_, _≤_, _<_};
 ghost use lib.ListN.{length};
 ghost use Rattle.aes.specs.Cipher.{cipher};
 ghost use Rattle.aes.specs.Tables.{Ready};
-ghost use Rattle.octets.specs.Octets.{put, xors};
+ghost use Rattle.octets.specs.Octets.{xors, part};
 ghost use Rattle.cmac.specs.Cmac.{cmacFrom, zeros, double, pad};
-ghost use Rattle.s2v.specs.S2v.{xorend, tailLength, tagFrom, tag};
+ghost use Rattle.header.specs.Header.{total, strings};
+ghost use Rattle.s2v.specs.S2v.{absorbStrings, headerResult, xorend, tailLength, tagFrom, tag};
 use aes::Engine;
 use aes::RoundKeys;
 use cmac::Subkeys;
 use octets::Block;
+
+// D with one string more: D doubled, xored with the CMAC of the n bytes at a place of the header buffer.
+fn absorb_string(engine: &Engine, width: usize, keys: &RoundKeys, k: Subkeys, d: Block, bytes: &[u8], at: usize, n: usize) -> Block
+    requires { ⌜ Ready (now engine) × (width ≤ 32) × (at + n ≤ length (now bytes)) ⌝ }
+    ensures { λ r. ⌜ r ≡ xors (double d) (cmacFrom (cipher width (now (keys .entry))) k zeros (part (now (bytes .entry)) at n)) ⌝ }
+{
+    let s = header::reader::string_from(bytes, at, n);
+    octets::xor_block(cmac::double(d), cmac::cmac_from(engine, width, keys, k, [0u8; 16], s))
+}
+
+// D from d on over the strings of a header list.
+pub fn absorb_strings(engine: &Engine, width: usize, keys: &RoundKeys, k: Subkeys, d: Block, bytes: &[u8], lens: &[u32]) -> Block
+    requires { ⌜ Ready (now engine) × (width ≤ 32) × (total (now lens) ≤ length (now bytes)) ⌝ }
+    ensures { λ r. ⌜ r ≡ absorbStrings (cipher width (now (keys .entry))) k d (strings (now (bytes .entry)) (now (lens .entry))) ⌝ }
+{
+    let mut b = d;
+    let mut at = 0;
+    let mut i = 0;
+    while i < lens.len() {
+        let n = lens[i] as usize;
+        let next = absorb_string(engine, width, keys, k, b, bytes, at, n);
+        b = next;
+        at += n;
+        i += 1;
+    }
+    b
+}
+
+// D over the strings of a header list.
+pub fn make_header_result(engine: &Engine, width: usize, keys: &RoundKeys, k: Subkeys, bytes: &[u8], lens: &[u32]) -> Block
+    requires { ⌜ Ready (now engine) × (width ≤ 32) × (total (now lens) ≤ length (now bytes)) ⌝ }
+    ensures { λ r. ⌜ r ≡ headerResult (cipher width (now (keys .entry))) k (strings (now (bytes .entry)) (now (lens .entry))) ⌝ }
+{
+    let zero = [0u8; 16];
+    let d = cmac::cmac_from(engine, width, keys, k, zero, &zero);
+    absorb_strings(engine, width, keys, k, d, bytes, lens)
+}
 
 // How many bytes at the end of a plaintext of n bytes wait for its end.
 pub fn tail_len(n: usize) -> usize
