@@ -2,12 +2,12 @@
 -- Assumes nothing.
 use mathlib.Core.Path.{_≡_, refl, ap, ap₂, sym, _∙_}
 use mathlib.Core.List.{List, [], _∷_, _++_, append-assoc}
-use Prim.Native.Nat.{ℕ, _+_, _-_, _*_, _/_, _%_, _≤_, _<_}
+use Prim.Native.Nat.{ℕ, suc, _+_, _-_, _*_, _/_, _%_, _≤_, _<_}
 use native.Mathlib.Numerals.{add-one}
 use native.Mathlib.Decide.{decLt}
 use native.Mathlib.Omega.{arith}
 use lib.ListN.{length, getD, take, drop, length-append, length-drop, take-append-drop}
-use lib.Seq.{take-append-le, length-take-le, take-append-add, drop-append-add}
+use lib.Seq.{take-all, take-append-le, length-take-le, take-append-add, drop-append-add}
 use borrow.Author.Tests.{lt-ltb, le-ltb}
 use Rattle.octets.specs.Octets.{xors, put, part}
 use Rattle.octets.proofs.Strings.{length-xors, length-put, take-put}
@@ -15,7 +15,7 @@ use Rattle.cmac.specs.declared.Subkeys.{Subkeys}
 use Rattle.cmac.specs.Cmac.{zeros, double, chain, cmacFrom}
 use Rattle.cmac.proofs.Laws.{chain-front, cmac-split}
 use Rattle.header.specs.Header.{total, strings}
-use Rattle.header.proofs.Laws.{strings-suc}
+use Rattle.header.proofs.Laws.{strings-suc, total-suc, total-next}
 use Rattle.s2v.specs.S2v.{absorbStrings, xorend, lastString, tailLength, tagFrom, tag}
 
 -- ---- the tail
@@ -114,20 +114,42 @@ module _ (E : List ℕ → List ℕ) (k : Subkeys) (d : List ℕ) where
 
 -- ---- D over the header strings
 
-module _ (E : List ℕ → List ℕ) (k : Subkeys) where
-  -- a list cut in two folds the same
-  pub absorb-append : (d : List ℕ) (a b : List (List ℕ)) → absorbStrings E k d (a ++ b) ≡ absorbStrings E k (absorbStrings E k d a) b
-  unfolding absorbStrings
-  absorb-append d [] b = refl
-  absorb-append d (s ∷ a) b = absorb-append (xors (double d) (cmacFrom E k zeros s)) a b
+-- a list cut in two folds the same
+pub absorb-append : (E : List ℕ → List ℕ) (k : Subkeys) (d : List ℕ) (a b : List (List ℕ)) → absorbStrings E k d (a ++ b) ≡ absorbStrings E k (absorbStrings E k d a) b
+unfolding absorbStrings
+absorb-append E k d [] b = refl
+absorb-append E k d (s ∷ a) b = absorb-append E k (xors (double d) (cmacFrom E k zeros s)) a b
 
-  -- a turn of the loop: one string more
-  pub absorb-more : (d bytes lens : List ℕ) (i at : ℕ) {before next : List ℕ} → i < length lens → at ≡ total (take i lens)
-      → before ≡ absorbStrings E k d (strings bytes (take i lens))
-      → next ≡ xors (double before) (cmacFrom E k zeros (part bytes at (getD lens i 0))) → next ≡ absorbStrings E k d (strings bytes (take (i + 1) lens))
-  unfolding absorbStrings
-  absorb-more d bytes lens i at {before} h place b e =
-      e
-      ∙ ap₂ (λ (x : List ℕ) (n : ℕ). xors (double x) (cmacFrom E k zeros (part bytes n (getD lens i 0)))) b place
-      ∙ sym (absorb-append d (strings bytes (take i lens)) (part bytes (total (take i lens)) (getD lens i 0) ∷ []))
-      ∙ ap (absorbStrings E k d) (sym (strings-suc lens i h bytes) ∙ ap (λ (n : ℕ). strings bytes (take n lens)) (sym (add-one i)))
+-- what the loop over the lengths has reached after i turns
+pub record Absorbed (E : List ℕ → List ℕ) (k : Subkeys) (d bytes lens now : List ℕ) (at i : ℕ) : Type 0 where
+  pub count : i ≤ length lens
+  pub place : at ≡ total (take i lens)
+  pub result : now ≡ absorbStrings E k d (strings bytes (take i lens))
+
+module _ (E : List ℕ → List ℕ) (k : Subkeys) (d bytes lens : List ℕ) where
+  pub absorbed-none : Absorbed E k d bytes lens d 0 0
+  unfolding total strings absorbStrings
+  absorbed-none = record { count = omega arith; place = refl; result = refl }
+
+  module _ (now : List ℕ) (at i : ℕ) (s : Absorbed E k d bytes lens now at i) where
+    -- the next string lies within the buffer
+    pub absorbed-fits : i < length lens → total lens ≤ length bytes → at + getD lens i 0 ≤ length bytes
+    absorbed-fits h fits = omega (arith, total-next lens i h, s .place)
+
+    pub absorbed-more : (next : List ℕ) → i < length lens → next ≡ xors (double now) (cmacFrom E k zeros (part bytes at (getD lens i 0)))
+        → Absorbed E k d bytes lens next (at + getD lens i 0) (i + 1)
+    unfolding absorbStrings
+    absorbed-more next h e =
+        let one : take (suc i) lens ≡ take (i + 1) lens = ap (λ (n : ℕ). take n lens) (sym (add-one i)) in
+        record {
+          count = omega arith;
+          place = ap (λ (n : ℕ). n + getD lens i 0) (s .place) ∙ sym (total-suc lens i h) ∙ ap total one;
+          result =
+              e
+              ∙ ap₂ (λ (x : List ℕ) (n : ℕ). xors (double x) (cmacFrom E k zeros (part bytes n (getD lens i 0)))) (s .result) (s .place)
+              ∙ sym (absorb-append E k d (strings bytes (take i lens)) (part bytes (total (take i lens)) (getD lens i 0) ∷ []))
+              ∙ ap (absorbStrings E k d) (sym (strings-suc lens i h bytes) ∙ ap (strings bytes) one);
+        }
+
+    pub absorbed-all : length lens ≤ i → now ≡ absorbStrings E k d (strings bytes lens)
+    absorbed-all h = s .result ∙ ap (λ (l : List ℕ). absorbStrings E k d (strings bytes l)) (take-all i lens h)

@@ -14,16 +14,36 @@ use cmac::Subkeys;
 use octets::Block;
 
 // D with one string more: D doubled, xored with the CMAC of the n bytes at a place of the header buffer.
-fn absorb_string(engine: &Engine, width: usize, keys: &RoundKeys, k: Subkeys, d: Block, bytes: &[u8], at: usize, n: usize) -> Block
+fn absorb_string(
+    engine: &Engine,
+    width: usize,
+    keys: &RoundKeys,
+    k: Subkeys,
+    d: Block,
+    bytes: &[u8],
+    at: usize,
+    n: usize,
+) -> Block
     requires { ⌜ Ready (now engine) × (width ≤ 32) × (at + n ≤ length (now bytes)) ⌝ }
     ensures { λ r. ⌜ r ≡ xors (double d) (cmacFrom (cipher width (now (keys .entry))) k zeros (part (now (bytes .entry)) at n)) ⌝ }
 {
     let s = header::reader::string_from(bytes, at, n);
-    octets::xor_block(cmac::double(d), cmac::cmac_from(engine, width, keys, k, [0u8; 16], s))
+    octets::xor_block(
+        cmac::double(d),
+        cmac::cmac_from(engine, width, keys, k, [0u8; 16], s),
+    )
 }
 
 // D from d on over the strings of a header list.
-pub fn absorb_strings(engine: &Engine, width: usize, keys: &RoundKeys, k: Subkeys, d: Block, bytes: &[u8], lens: &[u32]) -> Block
+pub fn absorb_strings(
+    engine: &Engine,
+    width: usize,
+    keys: &RoundKeys,
+    k: Subkeys,
+    d: Block,
+    bytes: &[u8],
+    lens: &[u32],
+) -> Block
     requires { ⌜ Ready (now engine) × (width ≤ 32) × (total (now lens) ≤ length (now bytes)) ⌝ }
     ensures { λ r. ⌜ r ≡ absorbStrings (cipher width (now (keys .entry))) k d (strings (now (bytes .entry)) (now (lens .entry))) ⌝ }
 {
@@ -41,7 +61,14 @@ pub fn absorb_strings(engine: &Engine, width: usize, keys: &RoundKeys, k: Subkey
 }
 
 // D over the strings of a header list.
-pub fn make_header_result(engine: &Engine, width: usize, keys: &RoundKeys, k: Subkeys, bytes: &[u8], lens: &[u32]) -> Block
+pub fn make_header_result(
+    engine: &Engine,
+    width: usize,
+    keys: &RoundKeys,
+    k: Subkeys,
+    bytes: &[u8],
+    lens: &[u32],
+) -> Block
     requires { ⌜ Ready (now engine) × (width ≤ 32) × (total (now lens) ≤ length (now bytes)) ⌝ }
     ensures { λ r. ⌜ r ≡ headerResult (cipher width (now (keys .entry))) k (strings (now (bytes .entry)) (now (lens .entry))) ⌝ }
 {

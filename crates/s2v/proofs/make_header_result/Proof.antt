@@ -1,0 +1,33 @@
+-- `s2v::make_header_result` meets its contract.
+-- Assumes nothing.
+use mathlib.Core.Path.{ap, _∙_}
+use mathlib.Core.List.{List}
+use Prim.Native.Nat.{ℕ}
+use borrow.Author.Needs.{needs}
+use Rattle.aes.specs.Cipher.{cipher}
+use Rattle.header.specs.Header.{strings}
+use Rattle.s2v.specs.S2v.{absorbStrings, headerResult}
+use Rattle.s2v.proofs.make_header_result.Statement.{statement}
+use Rattle.s2v.proofs.make_header_result.Tie as tie
+
+slice-aggregate-cmac-from : tie.Need-slice-aggregate-cmac-from
+slice-aggregate-cmac-from c = search needs
+
+cmac-from-requires : tie.Need-cmac-from-requires
+cmac-from-requires c κs = search needs
+
+absorb-strings-requires : tie.Need-absorb-strings-requires
+absorb-strings-requires c κs = search needs
+
+returns : tie.Need-returns
+unfolding headerResult
+returns c =
+    let args = c .before .before .before .before .before .args in
+    let ss = strings (args .bytes .now) (args .lens .now) in
+    c .absorb-strings .ensures
+    ∙ ap (λ (d : List ℕ). absorbStrings (cipher (args .width) (args .keys .now)) (args .k) d ss) (c .before .cmac-from .ensures)
+
+pub make-header-result-spec : {M : Type 1} → statement M
+make-header-result-spec =
+    tie.close
+    (tie.spec slice-aggregate-cmac-from cmac-from-requires absorb-strings-requires returns)
