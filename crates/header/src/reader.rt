@@ -7,7 +7,7 @@ ghost use Rattle.octets.specs.Octets.{part};
 // The string of n bytes at a place of the buffer.
 pub fn string_at(bytes: &[u8], at: usize, n: usize) -> &[u8]
     requires { ⌜ at + n ≤ length (now bytes) ⌝ }
-    ensures { λ r. ⌜ now r ≡ part (now (bytes .entry)) at n ⌝ }
+    ensures { λ s. ⌜ now s ≡ part (now (bytes .entry)) at n ⌝ }
 {
     &bytes[at..at + n]
 }
