@@ -76,6 +76,10 @@ module _ {M : Type 1} (𝓤 : URA M) (H : Heap 𝓤) (A : Atoms 𝓤) (W : Given
 pub new-spec : {M : Type 1} → stated.statement M
 unfolding code.routine
 new-spec 𝓤 H 𝓜 𝓖 𝓡 =
-    closed 𝓤 H 𝓜 𝓖 𝓡 code.env #header·reader·new code.function (code.unfolded 𝓤 H 𝓜 𝓡) new.ended stayed (new.clauses 𝓤 H (𝓖 .A) (𝓜 .mem) (𝓡 .run))
-    (slice-goes 𝓤 H (𝓖 .A) (givenOf 𝓤 H 𝓜 𝓖), (number-goes 𝓤 H (𝓖 .A) (givenOf 𝓤 H 𝓜 𝓖), tt)) (λ κs. (slice-vals, (uint-vals w64, tt))) (λ κs. (shr-slice-tells (named 0) (κs .0) u8, (uint-tells w64, tt)))
-    (λ κs qs bounds a g are. via 𝓤 _ (fst∗ 𝓤 _ (emp 𝓤)) (walk 𝓤 H (𝓖 .A) (givenOf 𝓤 H 𝓜 𝓖) (𝓜 .mem) (𝓡 .run) (κs .0) (qs .0) (a .0) (a .1 .0) (are .1 .0 .1) (tables 𝓤 H 𝓜 𝓡 code.env .C) (tables 𝓤 H 𝓜 𝓡 code.env .Λ) (are .0)))
+    let A = 𝓖 .A in
+    let W = givenOf 𝓤 H 𝓜 𝓖 in
+    let C = tables 𝓤 H 𝓜 𝓡 code.env .C in
+    let Λ = tables 𝓤 H 𝓜 𝓡 code.env .Λ in
+    closed 𝓤 H 𝓜 𝓖 𝓡 code.env #header·reader·new code.function (code.unfolded 𝓤 H 𝓜 𝓡) new.ended stayed (new.clauses 𝓤 H A (𝓜 .mem) (𝓡 .run))
+    (slice-goes 𝓤 H A W, (number-goes 𝓤 H A W, tt)) (λ κs. (slice-vals, (uint-vals w64, tt))) (λ κs. (shr-slice-tells (named 0) (κs .0) u8, (uint-tells w64, tt)))
+    (λ κs qs bounds a g are. via 𝓤 _ (fst∗ 𝓤 _ (emp 𝓤)) (walk 𝓤 H A W (𝓜 .mem) (𝓡 .run) (κs .0) (qs .0) (a .0) (a .1 .0) (are .1 .0 .1) C Λ (are .0)))
