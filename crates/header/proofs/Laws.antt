@@ -17,7 +17,7 @@ use Rattle.header.specs.Header.{total, strings}
 pub length-strings : (bytes lens : List ℕ) → length (strings bytes lens) ≡ length lens
 unfolding strings
 length-strings bytes [] = refl
-length-strings bytes (n ∷ lens) = ap suc (length-strings (drop n bytes) lens)
+length-strings bytes (n ∷ lens) = ap suc (length-strings _ lens)
 
 -- the sum of joined lists
 pub total-append : (a b : List ℕ) → total (a ++ b) ≡ total a + total b

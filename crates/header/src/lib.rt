@@ -1,9 +1,9 @@
 // The header list: one buffer of bytes and a list of lengths; string i is the next lens[i] bytes.
+pub mod reader;
+
 ghost use mathlib.Core.Path.{_≡_};
 ghost use lib.Dec.{eqb};
 ghost use Rattle.header.specs.Header.{total};
-
-pub mod reader;
 
 // The most header strings that RFC 5297 allows.
 pub const MOST: usize = 126;

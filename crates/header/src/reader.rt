@@ -4,18 +4,18 @@ ghost use Prim.Native.Nat.{_+_, _≤_};
 ghost use lib.ListN.{length};
 ghost use Rattle.octets.specs.Octets.{part};
 
-// The string of n bytes at a place of the buffer.
-pub fn string_at(bytes: &[u8], at: usize, n: usize) -> &[u8]
-    requires { ⌜ at + n ≤ length (now bytes) ⌝ }
-    ensures { λ r. ⌜ now r ≡ part (now (bytes .entry)) at n ⌝ }
-{
-    &bytes[at..at + n]
-}
-
 // The lent bytes and a place in them.
 pub struct Reader<'a> {
     pub bytes: &'a [u8],
     pub at: usize,
+}
+
+// The string of n bytes at a place of the buffer.
+pub fn string_at(bytes: &[u8], at: usize, n: usize) -> &[u8]
+    requires { ⌜ at + n ≤ length (now bytes) ⌝ }
+    ensures { λ s. ⌜ now s ≡ part (now (bytes .entry)) at n ⌝ }
+{
+    &bytes[at..at + n]
 }
 
 // A reader of the bytes, at a place.
