@@ -2,11 +2,18 @@
 pub mod reader;
 
 ghost use mathlib.Core.Path.{_≡_};
-ghost use lib.Dec.{eqb};
+ghost use lib.Dec.{eqb, ltb};
 ghost use Rattle.header.specs.Header.{total};
 
 // The most header strings that RFC 5297 allows.
 pub const MOST: usize = 126;
+
+// Whether a list of count strings is too long.
+pub fn too_many(count: usize) -> bool
+    ensures { λ r. ⌜ r ≡ ltb 126 count ⌝ }
+{
+    MOST < count
+}
 
 // Whether the lengths sum to n.
 pub fn sums_to(lens: &[u32], n: usize) -> bool
