@@ -3,7 +3,7 @@
 use mathlib.Core.Path.{_≡_, refl, sym, ap, ap₂, _∙_}
 use mathlib.Core.List.{List, [], _∷_, _++_}
 use Prim.Native.Nat.{ℕ, zero, suc, _+_, _-_, _*_, _/_, _%_, _^_, _≤_, _<_}
-use native.Mathlib.Nat.{zero-add, suc-add, add-comm, zero-mul, add-mul, mul-assoc, pow-suc, one-le-pow, mod-lt, div-div-eq-div-mul}
+use native.Mathlib.Nat.{zero-add, suc-add, add-assoc, add-comm, zero-mul, add-mul, mul-assoc, pow-suc, one-le-pow, mod-lt, div-div-eq-div-mul}
 use native.Mathlib.Omega.{arith}
 use lib.Arith.{digits-div, digits-mod, mod-mul}
 use lib.ListN.{length, take, drop, getD, length-append, length-drop, take-append-drop}
@@ -82,12 +82,36 @@ number-halves q h =
     ∙ number-append (take 8 q) (part q 8 8)
     ∙ ap (λ (n : ℕ). number (take 8 q) * 256 ^ n + number (part q 8 8)) (length-part q 8 8 (omega arith))
 
--- ---- Q + i by halves, of which the high one may go beyond 64 bits
+-- ---- Q + i by halves, with `sum` the low half of the result
 
-module _ (q : List ℕ) (long : length q ≡ 16) (i hi lo : ℕ) (e : number (part q 0 8) * 2 ^ 64 + number (part q 8 8) + i ≡ hi * 2 ^ 64 + lo) (h : lo < 2 ^ 64) where
-  pub plus-halves : bytesOfNumber 8 hi ++ bytesOfNumber 8 lo ≡ plus q i
+-- the carry out of the low half
+kept : (lo i sum : ℕ) → lo < 2 ^ 64 → i < 2 ^ 64 → sum ≡ (lo + i) % 2 ^ 64 → lo ≤ sum → lo + i ≡ sum
+kept lo i sum hl hi e h = omega arith
+
+carried : (lo i sum : ℕ) → lo < 2 ^ 64 → i < 2 ^ 64 → sum ≡ (lo + i) % 2 ^ 64 → sum < lo → lo + i ≡ 2 ^ 64 + sum
+carried lo i sum hl hi e h = omega arith
+
+module _ (q : List ℕ) (long : length q ≡ 16) {hi lo i sum : ℕ} (high : hi ≡ number (part q 0 8)) (low : lo ≡ number (part q 8 8))
+    (lo-fits : lo < 2 ^ 64) (i-fits : i < 2 ^ 64) (e : sum ≡ (lo + i) % 2 ^ 64) where
+  whole : number q + i ≡ hi * 2 ^ 64 + (lo + i)
+  whole =
+      ap (λ (n : ℕ). n + i) (number-halves q long ∙ ap₂ (λ (x y : ℕ). x * 2 ^ 64 + y) (sym high) (sym low))
+      ∙ add-assoc (hi * 2 ^ 64) lo i
+
+  sum-fits : sum < 2 ^ 64
+  sum-fits = omega arith
+
+  pub plus-kept : lo ≤ sum → bytesOfNumber 8 hi ++ bytesOfNumber 8 sum ≡ plus q i
   unfolding plus
-  plus-halves = bytes-halves (number q + i) hi lo (ap (λ (n : ℕ). n + i) (number-halves q long) ∙ e) h
+  plus-kept h = bytes-halves (number q + i) hi sum (whole ∙ ap (λ (n : ℕ). hi * 2 ^ 64 + n) (kept lo i sum lo-fits i-fits e h)) sum-fits
 
-  pub plus-wrapped : bytesOfNumber 8 (hi % 2 ^ 64) ++ bytesOfNumber 8 lo ≡ plus q i
-  plus-wrapped = ap (λ (l : List ℕ). l ++ bytesOfNumber 8 lo) (bytes-mod 8 0 hi) ∙ plus-halves
+  pub plus-carried : sum < lo → bytesOfNumber 8 ((hi + 1) % 2 ^ 64) ++ bytesOfNumber 8 sum ≡ plus q i
+  unfolding plus
+  plus-carried h =
+      ap (λ (l : List ℕ). l ++ bytesOfNumber 8 sum) (bytes-mod 8 0 (hi + 1))
+      ∙ bytes-halves (number q + i) (hi + 1) sum
+      (whole ∙ ap (λ (n : ℕ). hi * 2 ^ 64 + n) (carried lo i sum lo-fits i-fits e h) ∙ up hi sum)
+      sum-fits
+    where
+      up : (x y : ℕ) → x * 2 ^ 64 + (2 ^ 64 + y) ≡ (x + 1) * 2 ^ 64 + y
+      up x y = omega arith

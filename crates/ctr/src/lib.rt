@@ -1,8 +1,14 @@
 // Counter mode as RFC 5297 has it: the key stream under V, xored into parts of lent slices.
 ghost use mathlib.Core.Path.{_≡_};
+ghost use Prim.Native.Nat.{_+_, _*_, _≤_};
+ghost use lib.ListN.{length};
 ghost use mathlib.Core.List.{[], _∷_, _++_};
-ghost use Rattle.octets.specs.Octets.{part};
-ghost use Rattle.ctr.specs.Counter.{number, bytesOfNumber, clear, plus};
+ghost use Rattle.octets.specs.Octets.{part, put};
+ghost use Rattle.ctr.specs.Counter.{number, bytesOfNumber, clear, plus, xorStream};
+ghost use Rattle.aes.specs.Cipher.{cipher};
+ghost use Rattle.aes.specs.Tables.{Ready};
+use aes::Engine;
+use aes::RoundKeys;
 use octets::Block;
 
 // Q from V: the top bits of bytes 8 and 12 cleared.
@@ -78,4 +84,24 @@ pub fn plus(q: Block, i: u64) -> Block
         return split(std::num::wrapping_add_u64(hi, 1), sum);
     }
     split(hi, sum)
+}
+
+// Block i of the key stream.
+fn key_block(engine: &Engine, width: usize, keys: &RoundKeys, v: Block, i: u64) -> Block
+    requires { ⌜ Ready (now engine) × (width ≤ 32) ⌝ }
+    ensures { λ r. ⌜ r ≡ cipher width (now (keys .entry)) (plus (clear v) i) ⌝ }
+{
+    aes::encrypt(engine, width, keys, plus(clear(v), i))
+}
+
+// Writes src, xored with block i of the key stream from its byte k on, at place at of a slice; src ends with the block at the latest.
+fn xor_piece(engine: &Engine, width: usize, keys: &RoundKeys, v: Block, i: u64, k: usize, src: &[u8], dst: &mut [u8], at: usize)
+    requires { ⌜ Ready (now engine) × (width ≤ 32) × (k + length (now src) ≤ 16) × (at + length (now src) ≤ length (now dst)) ⌝ }
+    ensures { λ _. ⌜ now (dst .exit) ≡ put (now (dst .entry)) at (xorStream (cipher width (now (keys .entry))) v (16 * i + k) (now (src .entry))) ⌝ }
+{
+    if src.len() == 0 {
+        return;
+    }
+    let block = key_block(engine, width, keys, v, i);
+    octets::xor_at(dst, at, src, &block[k..]);
 }
