@@ -1,20 +1,20 @@
 -- Laws of the key stream, for any block function: lengths, undoing, prefixes, and pieces that join.
 -- Assumes nothing.
 use mathlib.Core.Path.{_≡_, refl, sym, ap, ap₂, _∙_}
-use mathlib.Core.List.{List, [], _++_, append-nil}
+use mathlib.Core.List.{List, [], _++_}
 use Prim.Native.Nat.{ℕ, zero, suc, _+_, _-_, _*_, _/_, _%_, _≤_, _<_}
 use native.Mathlib.Nat.{add-zero, add-suc}
 use native.Mathlib.Omega.{arith}
 use lib.ListN.{length, take, drop, length-append, length-drop, take-append-drop}
 use lib.Seq.{take-all, take-take, take-append-le, take-add, take-at, drop-at, drop-drop, drop-append-add, length-take-le}
-use Rattle.octets.specs.Octets.{xors, put}
+use Rattle.octets.specs.Octets.{xors}
 use Rattle.octets.proofs.Strings.{length-xors, xors-undo, xors-append, take-xors}
 use Rattle.ctr.specs.Counter.{clear, plus, streamBlocks, keyStream, xorStream}
 
 -- ---- strings
 
 -- what stands beyond the end of `s` does not count in a xor into it
-xors-take : (s t : List ℕ) → xors s (take (length s) t) ≡ xors s t
+pub xors-take : (s t : List ℕ) → xors s (take (length s) t) ≡ xors s t
 xors-take s t =
     ap (λ (l : List ℕ). xors l (take (length s) t)) (sym (take-all (length s) s (omega arith)))
     ∙ sym (take-xors (length s) s t)
@@ -23,11 +23,6 @@ xors-take s t =
 -- a part of a prefix
 drop-take : (p n : ℕ) (l : List ℕ) → p ≤ length l → drop p (take (p + n) l) ≡ take n (drop p l)
 drop-take p n l h = ap (drop p) (take-add p n l) ∙ drop-at (take p l) (take n (drop p l)) p (length-take-le p l h)
-
--- writing nothing
-pub put-nil : (l : List ℕ) (at : ℕ) → put l at [] ≡ l
-unfolding put
-put-nil l at = ap₂ (λ (p : List ℕ) (n : ℕ). p ++ drop n l) (append-nil (take at l)) (add-zero at) ∙ take-append-drop at l
 
 -- ---- the key stream
 

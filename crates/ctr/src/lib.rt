@@ -1,7 +1,7 @@
 // Counter mode as RFC 5297 has it: the key stream under V, xored into parts of lent slices.
 ghost use mathlib.Core.Path.{_≡_};
 ghost use Prim.Native.Nat.{_+_, _*_, _≤_};
-ghost use lib.ListN.{length};
+ghost use lib.ListN.{length, take};
 ghost use mathlib.Core.List.{[], _∷_, _++_};
 ghost use Rattle.octets.specs.Octets.{part, put};
 ghost use Rattle.ctr.specs.Counter.{number, bytesOfNumber, clear, plus, xorStream};
@@ -104,4 +104,42 @@ fn xor_piece(engine: &Engine, width: usize, keys: &RoundKeys, v: Block, i: u64, 
     }
     let block = key_block(engine, width, keys, v, i);
     octets::xor_at(dst, at, src, &block[k..]);
+}
+
+// Writes the first n blocks of src, xored with the key stream from block i on, at place at of a slice.
+fn xor_blocks(engine: &Engine, width: usize, keys: &RoundKeys, v: Block, i: usize, n: usize, src: &[u8], dst: &mut [u8], at: usize)
+    requires { ⌜ Ready (now engine) × (width ≤ 32) × (i ≤ 1152921504606846976) × (16 * n ≤ length (now src)) × (at + 16 * n ≤ length (now dst)) ⌝ }
+    ensures { λ _. ⌜ now (dst .exit) ≡ put (now (dst .entry)) at (xorStream (cipher width (now (keys .entry))) v (16 * i) (take (16 * n) (now (src .entry)))) ⌝ }
+{
+    let mut j = 0;
+    while j < n {
+        xor_piece(engine, width, keys, v, (i + j) as u64, 0, &src[16 * j..16 * j + 16], dst, at + 16 * j);
+        j += 1;
+    }
+}
+
+// Writes src, xored with the key stream from block i on, at place at of a slice: whole blocks, then the short end.
+fn xor_from(engine: &Engine, width: usize, keys: &RoundKeys, v: Block, i: usize, src: &[u8], dst: &mut [u8], at: usize)
+    requires { ⌜ Ready (now engine) × (width ≤ 32) × (i ≤ 1152921504606846976) × (at + length (now src) ≤ length (now dst)) ⌝ }
+    ensures { λ _. ⌜ now (dst .exit) ≡ put (now (dst .entry)) at (xorStream (cipher width (now (keys .entry))) v (16 * i) (now (src .entry))) ⌝ }
+{
+    let n = src.len() / 16;
+    xor_blocks(engine, width, keys, v, i, n, src, dst, at);
+    xor_piece(engine, width, keys, v, (i + n) as u64, 0, &src[16 * n..], dst, at + 16 * n);
+}
+
+// Writes src, xored with the key stream from byte place on, at place at of a slice: first the rest of a begun block.
+pub fn xor_stream(engine: &Engine, width: usize, keys: &RoundKeys, v: Block, place: usize, src: &[u8], dst: &mut [u8], at: usize)
+    requires { ⌜ Ready (now engine) × (width ≤ 32) × (at + length (now src) ≤ length (now dst)) ⌝ }
+    ensures { λ _. ⌜ now (dst .exit) ≡ put (now (dst .entry)) at (xorStream (cipher width (now (keys .entry))) v place (now (src .entry))) ⌝ }
+{
+    let i = place / 16;
+    let k = place % 16;
+    let rest = 16 - k;
+    if src.len() <= rest {
+        xor_piece(engine, width, keys, v, i as u64, k, src, dst, at);
+        return;
+    }
+    xor_piece(engine, width, keys, v, i as u64, k, &src[..rest], dst, at);
+    xor_from(engine, width, keys, v, i + 1, &src[rest..], dst, at + rest);
 }
