@@ -1,6 +1,8 @@
 -- `ctr::xor_blocks` meets its contract: after j turns the first j blocks are written.
 -- Assumes nothing.
+use mathlib.Core.Path.{_≡_}
 use Prim.Native.Nat.{_-_, _≤_}
+use native.Mathlib.Omega.{arith}
 use borrow.Author.Needs.{needs}
 use Rattle.ctr.proofs.Pieces.{Reached, reached-none, reached-more}
 use Rattle.aes.proofs.Widths.{length-cipher}
@@ -15,7 +17,9 @@ abbrev μ-loop : tie.MeasureT-loop
 μ-loop engine width keys v i n src dst₀ at j₀ dst j = n - j
 
 loop-holds : tie.Need-loop-holds Inv-loop μ-loop
-loop-holds c = ?
+loop-holds c =
+    let args = c .before .before .args in
+    (omega arith, reached-none _ (length-cipher (args .width) (args .keys .now)) _ _ _ _ _)
 
 add-xor-piece : tie.Need-add-xor-piece Inv-loop μ-loop
 add-xor-piece c = search needs
@@ -54,13 +58,19 @@ loop-less : tie.Need-loop-less Inv-loop μ-loop
 loop-less c = search needs
 
 loop-again : tie.Need-loop-again Inv-loop μ-loop
-loop-again c = ?
+loop-again c =
+    let called = c .before .before in
+    let head = called .before .before .before .before in
+    let args = head .before .before .before .args in
+    (omega arith, reached-more _ (length-cipher (args .width) (args .keys .now)) _ _ _ _ _ (head .loop .j) (omega arith) (omega arith) (head .loop .inv .1) (omega arith) (called .xor-piece .ensures))
 
 same-length : tie.Need-same-length Inv-loop μ-loop
 same-length c = search needs
 
 returns : tie.Need-returns Inv-loop μ-loop
-returns c = ?
+returns c =
+    let done : c .before .before .before .before .args .n ≡ c .before .loop .j = omega arith in
+    rw done (c .before .loop .inv .1 .bytes)
 
 pub xor-blocks-spec : {M : Type 1} → statement M
 xor-blocks-spec =
