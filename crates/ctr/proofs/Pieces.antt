@@ -15,7 +15,7 @@ use Rattle.ctr.proofs.Laws.{length-xorStream, xorStream-append, xorStre
 -- ---- parts of a string
 
 -- a front and `&l[n..]`
-pub front-rest : (n : ℕ) (l : List ℕ) → take n l ++ take (length l - n) (drop n l) ≡ l
+front-rest : (n : ℕ) (l : List ℕ) → take n l ++ take (length l - n) (drop n l) ≡ l
 front-rest n l =
     ap (λ (t : List ℕ). take n l ++ t) (take-all (length l - n) (drop n l) (omega (arith, length-drop n l))) ∙ take-append-drop n l
 
@@ -46,7 +46,7 @@ module _ (E : List ℕ → List ℕ) (sized : (b : List ℕ) → length (E b) �
       ap (xors s) (take-all (16 - k) (drop k block) (omega (arith, length-drop k block)) ∙ ap (drop k) e) ∙ sym (xorStream-block E sized v i k s h)
 
   -- a piece of n bytes, and what is written behind it
-  pub xorStream-next : (l : List ℕ) (at p : ℕ) (a b : List ℕ) {n q : ℕ} → length a ≡ n → q ≡ p + n → at + n ≤ length l
+  xorStream-next : (l : List ℕ) (at p : ℕ) (a b : List ℕ) {n q : ℕ} → length a ≡ n → q ≡ p + n → at + n ≤ length l
       → put (put l at (xorStream E v p a)) (at + n) (xorStream E v q b) ≡ put l at (xorStream E v p (a ++ b))
   xorStream-next l at p a b {n} {q} count place fits =
       let X : List ℕ = xorStream E v p a in
@@ -56,6 +56,16 @@ module _ (E : List ℕ → List ℕ) (sized : (b : List ℕ) → length (E b) �
       ap₂ (λ (m o : ℕ). put (put l at X) m (xorStream E v o b)) end behind
       ∙ put-put l at X (xorStream E v (p + length a) b) (omega arith)
       ∙ ap (put l at) (sym (xorStream-append E sized v p a b))
+
+  -- the first m bytes of `s`, and `&s[m..]` behind them
+  pub xorStream-joined : (l : List ℕ) (at p : ℕ) (s : List ℕ) (m : ℕ) {q : ℕ} {now next : List ℕ} → m ≤ length s → at + length s ≤ length l → q ≡ p + m
+      → now ≡ put l at (xorStream E v p (take m s)) → next ≡ put now (at + m) (xorStream E v q (take (length s - m) (drop m s)))
+      → next ≡ put l at (xorStream E v p s)
+  xorStream-joined l at p s m {q} hs hl place front rest =
+      rest
+      ∙ ap (λ (d : List ℕ). put d (at + m) (xorStream E v q (take (length s - m) (drop m s)))) front
+      ∙ xorStream-next l at p (take m s) (take (length s - m) (drop m s)) (length-take-le m s hs) place (omega arith)
+      ∙ ap (λ (t : List ℕ). put l at (xorStream E v p t)) (front-rest m s)
 
 -- ---- a loop that writes `s` over `l` from place `at` on, a block a turn, with the key stream from block i on
 

@@ -95,7 +95,17 @@ fn key_block(engine: &Engine, width: usize, keys: &RoundKeys, v: Block, i: u64) 
 }
 
 // Writes src, xored with block i of the key stream from its byte k on, at place at of a slice; src ends with the block at the latest.
-fn xor_piece(engine: &Engine, width: usize, keys: &RoundKeys, v: Block, i: u64, k: usize, src: &[u8], dst: &mut [u8], at: usize)
+fn xor_piece(
+    engine: &Engine,
+    width: usize,
+    keys: &RoundKeys,
+    v: Block,
+    i: u64,
+    k: usize,
+    src: &[u8],
+    dst: &mut [u8],
+    at: usize,
+)
     requires { ⌜ Ready (now engine) × (width ≤ 32) × (k + length (now src) ≤ 16) × (at + length (now src) ≤ length (now dst)) ⌝ }
     ensures { λ _. ⌜ now (dst .exit) ≡ put (now (dst .entry)) at (xorStream (cipher width (now (keys .entry))) v (16 * i + k) (now (src .entry))) ⌝ }
 {
@@ -107,29 +117,77 @@ fn xor_piece(engine: &Engine, width: usize, keys: &RoundKeys, v: Block, i: u64, 
 }
 
 // Writes the first n blocks of src, xored with the key stream from block i on, at place at of a slice.
-fn xor_blocks(engine: &Engine, width: usize, keys: &RoundKeys, v: Block, i: usize, n: usize, src: &[u8], dst: &mut [u8], at: usize)
+fn xor_blocks(
+    engine: &Engine,
+    width: usize,
+    keys: &RoundKeys,
+    v: Block,
+    i: usize,
+    n: usize,
+    src: &[u8],
+    dst: &mut [u8],
+    at: usize,
+)
     requires { ⌜ Ready (now engine) × (width ≤ 32) × (i ≤ 1152921504606846976) × (16 * n ≤ length (now src)) × (at + 16 * n ≤ length (now dst)) ⌝ }
     ensures { λ _. ⌜ now (dst .exit) ≡ put (now (dst .entry)) at (xorStream (cipher width (now (keys .entry))) v (16 * i) (take (16 * n) (now (src .entry)))) ⌝ }
 {
     let mut j = 0;
     while j < n {
-        xor_piece(engine, width, keys, v, (i + j) as u64, 0, &src[16 * j..16 * j + 16], dst, at + 16 * j);
+        xor_piece(
+            engine,
+            width,
+            keys,
+            v,
+            (i + j) as u64,
+            0,
+            &src[16 * j..16 * j + 16],
+            dst,
+            at + 16 * j,
+        );
         j += 1;
     }
 }
 
 // Writes src, xored with the key stream from block i on, at place at of a slice: whole blocks, then the short end.
-fn xor_from(engine: &Engine, width: usize, keys: &RoundKeys, v: Block, i: usize, src: &[u8], dst: &mut [u8], at: usize)
+fn xor_from(
+    engine: &Engine,
+    width: usize,
+    keys: &RoundKeys,
+    v: Block,
+    i: usize,
+    src: &[u8],
+    dst: &mut [u8],
+    at: usize,
+)
     requires { ⌜ Ready (now engine) × (width ≤ 32) × (i ≤ 1152921504606846976) × (at + length (now src) ≤ length (now dst)) ⌝ }
     ensures { λ _. ⌜ now (dst .exit) ≡ put (now (dst .entry)) at (xorStream (cipher width (now (keys .entry))) v (16 * i) (now (src .entry))) ⌝ }
 {
     let n = src.len() / 16;
     xor_blocks(engine, width, keys, v, i, n, src, dst, at);
-    xor_piece(engine, width, keys, v, (i + n) as u64, 0, &src[16 * n..], dst, at + 16 * n);
+    xor_piece(
+        engine,
+        width,
+        keys,
+        v,
+        (i + n) as u64,
+        0,
+        &src[16 * n..],
+        dst,
+        at + 16 * n,
+    );
 }
 
 // Writes src, xored with the key stream from byte place on, at place at of a slice: first the rest of a begun block.
-pub fn xor_stream(engine: &Engine, width: usize, keys: &RoundKeys, v: Block, place: usize, src: &[u8], dst: &mut [u8], at: usize)
+pub fn xor_stream(
+    engine: &Engine,
+    width: usize,
+    keys: &RoundKeys,
+    v: Block,
+    place: usize,
+    src: &[u8],
+    dst: &mut [u8],
+    at: usize,
+)
     requires { ⌜ Ready (now engine) × (width ≤ 32) × (at + length (now src) ≤ length (now dst)) ⌝ }
     ensures { λ _. ⌜ now (dst .exit) ≡ put (now (dst .entry)) at (xorStream (cipher width (now (keys .entry))) v place (now (src .entry))) ⌝ }
 {

@@ -1,8 +1,10 @@
 -- `ctr::xor_from` meets its contract: whole blocks, then the short end.
 -- Assumes nothing.
-use mathlib.Core.Path.{ap, _∙_}
+use Prim.Native.Nat.{_*_, _/_}
+use native.Mathlib.Omega.{arith}
+use lib.ListN.{length}
 use borrow.Author.Needs.{needs}
-use Rattle.ctr.proofs.Pieces.{front-rest, xorStream-next}
+use Rattle.ctr.proofs.Pieces.{xorStream-joined}
 use Rattle.aes.proofs.Widths.{length-cipher}
 use Rattle.ctr.proofs.xor_from.Statement.{statement}
 use Rattle.ctr.proofs.xor_from.Tie as tie
@@ -38,7 +40,12 @@ same-length : tie.Need-same-length
 same-length c = search needs
 
 returns : tie.Need-returns
-returns c = ?
+returns c =
+    let called = c .before .before in
+    let wrote = called .before .before .before .before .before in
+    let args = wrote .before .before .before .before .args in
+    xorStream-joined _ (length-cipher (args .width) (args .keys .now)) _ _ _ (16 * args .i) (args .src .now) (16 * (length (args .src .now) / 16)) (omega arith) (omega arith) (omega arith)
+    (wrote .xor-blocks .ensures) (called .xor-piece .ensures)
 
 pub xor-from-spec : {M : Type 1} → statement M
 xor-from-spec =

@@ -1,14 +1,22 @@
 -- `ctr::xor_stream` meets its contract.
 -- Assumes nothing.
-use mathlib.Core.Path.{ap, _∙_}
+use mathlib.Core.Path.{_≡_, sym}
+use Prim.Native.Nat.{ℕ, _+_, _-_, _*_, _/_, _%_}
+use native.Mathlib.Omega.{arith}
+use lib.ListN.{length, take}
+use lib.Seq.{length-take-le}
 use borrow.Author.Needs.{needs}
 use Rattle.aes.proofs.Widths.{length-cipher}
-use Rattle.ctr.proofs.Pieces.{front-rest, xorStream-next}
+use Rattle.ctr.proofs.Pieces.{xorStream-joined}
 use Rattle.ctr.proofs.xor_stream.Statement.{statement}
 use Rattle.ctr.proofs.xor_stream.Tie as tie
 
 sub-rest : tie.Need-sub-rest
 sub-rest c = search needs
+
+-- a place is in its block
+whole : (place : ℕ) → 16 * (place / 16) + place % 16 ≡ place
+whole place = omega arith
 
 xor-piece-requires : tie.Need-xor-piece-requires
 xor-piece-requires c κs = search needs
@@ -17,13 +25,20 @@ same-length : tie.Need-same-length
 same-length c = search needs
 
 returns : tie.Need-returns
-returns c = ?
+returns c =
+    let called = c .before .before in
+    let args = called .before .before .before .before .before .args in
+    rw (whole (args .place)) at (called .xor-piece .ensures)
 
 slice-aggregate-xor-piece : tie.Need-slice-aggregate-xor-piece
-slice-aggregate-xor-piece c = ?
+slice-aggregate-xor-piece c = sym (length-take-le _ _ (omega arith))
 
 xor-piece-requires-2 : tie.Need-xor-piece-requires-2
-xor-piece-requires-2 c κs = ?
+xor-piece-requires-2 c κs =
+    let args = c .before .before .before .before .before .args in
+    let rest = 16 - args .place % 16 in
+    let size : length (take rest (args .src .now)) ≡ rest = length-take-le _ _ (omega arith) in
+    search needs
 
 add-xor-from : tie.Need-add-xor-from
 add-xor-from c = search needs
@@ -47,7 +62,13 @@ same-length-2 : tie.Need-same-length-2
 same-length-2 c = search needs
 
 returns-2 : tie.Need-returns-2
-returns-2 c = ?
+returns-2 c =
+    let called = c .before .before in
+    let wrote = called .before .before .before .before .before in
+    let args = wrote .before .before .before .before .before .before .args in
+    rw (whole (args .place)) at
+    (xorStream-joined _ (length-cipher (args .width) (args .keys .now)) (args .v) _ _ (16 * (args .place / 16) + args .place % 16) (args .src .now) (16 - args .place % 16) (omega arith) (omega arith) (omega arith)
+    (wrote .xor-piece2 .ensures) (called .xor-from .ensures))
 
 pub xor-stream-spec : {M : Type 1} → statement M
 xor-stream-spec =
