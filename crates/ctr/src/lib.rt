@@ -1,6 +1,6 @@
 // Counter mode as RFC 5297 has it: the key stream under V, xored into parts of lent slices.
 ghost use mathlib.Core.Path.{_≡_};
-ghost use Prim.Native.Nat.{_+_, _*_, _≤_};
+ghost use Prim.Native.Nat.{_+_, _*_, _^_, _≤_};
 ghost use lib.ListN.{length, take};
 ghost use mathlib.Core.List.{[], _∷_, _++_};
 ghost use Rattle.octets.specs.Octets.{part, put};
@@ -128,7 +128,7 @@ fn xor_blocks(
     dst: &mut [u8],
     at: usize,
 )
-    requires { ⌜ Ready (now engine) × (width ≤ 32) × (i ≤ 1152921504606846976) × (16 * n ≤ length (now src)) × (at + 16 * n ≤ length (now dst)) ⌝ }
+    requires { ⌜ Ready (now engine) × (width ≤ 32) × (i ≤ 2 ^ 61) × (16 * n ≤ length (now src)) × (at + 16 * n ≤ length (now dst)) ⌝ }
     ensures { λ _. ⌜ now (dst .exit) ≡ put (now (dst .entry)) at (xorStream (cipher width (now (keys .entry))) v (16 * i) (take (16 * n) (now (src .entry)))) ⌝ }
 {
     let mut j = 0;
@@ -159,7 +159,7 @@ fn xor_from(
     dst: &mut [u8],
     at: usize,
 )
-    requires { ⌜ Ready (now engine) × (width ≤ 32) × (i ≤ 1152921504606846976) × (at + length (now src) ≤ length (now dst)) ⌝ }
+    requires { ⌜ Ready (now engine) × (width ≤ 32) × (i ≤ 2 ^ 61) × (at + length (now src) ≤ length (now dst)) ⌝ }
     ensures { λ _. ⌜ now (dst .exit) ≡ put (now (dst .entry)) at (xorStream (cipher width (now (keys .entry))) v (16 * i) (now (src .entry))) ⌝ }
 {
     let n = src.len() / 16;
