@@ -3,7 +3,7 @@
 use mathlib.Core.Path.{_≡_, refl, sym, ap, ap₂, _∙_}
 use mathlib.Core.List.{List, [], _∷_, _++_}
 use Prim.Native.Nat.{ℕ, zero, suc, _+_, _-_, _*_, _/_, _%_, _^_, _≤_, _<_}
-use native.Mathlib.Nat.{zero-add, suc-add, add-assoc, add-comm, zero-mul, add-mul, mul-assoc, pow-suc, one-le-pow, mod-lt, div-div-eq-div-mul}
+use native.Mathlib.Nat.{zero-add, suc-add, add-assoc, add-comm, zero-mul, add-mul, mul-assoc, pow-suc, pow-succ', one-le-pow, mod-lt, mod-one, div-div-eq-div-mul}
 use native.Mathlib.Omega.{arith}
 use lib.Arith.{digits-div, digits-mod, mod-mul}
 use lib.ListN.{length, take, drop, getD, length-append, length-drop, take-append-drop}
@@ -67,6 +67,18 @@ number-append (x ∷ a) b =
     let B : ℕ = 256 ^ length b in
     ap₂ (λ (p n : ℕ). x * p + n) (ap (λ (n : ℕ). 256 ^ n) (length-append a b) ∙ pow-add 256 (length a) (length b)) (number-append a b)
     ∙ omega (arith, mul-assoc x A B, add-mul (x * A) (number a) B)
+
+length-bytes : (n x : ℕ) → length (bytesOfNumber n x) ≡ n
+length-bytes zero x = refl
+length-bytes (suc n) x = ap suc (length-bytes n x)
+
+-- the n bytes of x stand for x modulo 256^n
+pub number-bytes : (n x : ℕ) → number (bytesOfNumber n x) ≡ x % 256 ^ n
+number-bytes zero x = sym (mod-one x)
+number-bytes (suc n) x =
+    ap₂ (λ (k m : ℕ). x / 256 ^ n % 256 * 256 ^ k + m) (length-bytes n x) (number-bytes n x)
+    ∙ sym (mod-mul x (omega arith) (pow-pos n))
+    ∙ ap (λ (m : ℕ). x % m) (sym (pow-succ' 256 n))
 
 -- n bytes of a string from a place on are the list of them
 pub part-entries : (n at : ℕ) (l : List ℕ) → at + n ≤ length l → part l at n ≡ entries n at l

@@ -37,6 +37,11 @@ unfolding xorStream xors
 xorStream-none E v l at p [] e = sym (put-nil l at)
 xorStream-none E v l at p (x ∷ s) e = absurd (omega arith)
 
+-- a place said in another way
+pub xorStream-at : (E : List ℕ → List ℕ) (v l : List ℕ) (at : ℕ) (s : List ℕ) {p place : ℕ} {next : List ℕ} → p ≡ place → next ≡ put l at (xorStream E v p s)
+    → next ≡ put l at (xorStream E v place s)
+xorStream-at E v l at s e h = h ∙ ap (λ (n : ℕ). put l at (xorStream E v n s)) e
+
 module _ (E : List ℕ → List ℕ) (sized : (b : List ℕ) → length (E b) ≡ 16) (v : List ℕ) where
   -- a piece within block i, xored with `&block[k..]`
   pub xorStream-piece : (i k : ℕ) (s : List ℕ) {block : List ℕ} → k + length s ≤ 16 → block ≡ E (plus (clear v) i)

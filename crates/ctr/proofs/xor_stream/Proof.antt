@@ -1,22 +1,18 @@
 -- `ctr::xor_stream` meets its contract.
 -- Assumes nothing.
 use mathlib.Core.Path.{_≡_, sym}
-use Prim.Native.Nat.{ℕ, _+_, _-_, _*_, _/_, _%_}
+use Prim.Native.Nat.{_-_, _%_}
 use native.Mathlib.Omega.{arith}
 use lib.ListN.{length, take}
 use lib.Seq.{length-take-le}
 use borrow.Author.Needs.{needs}
 use Rattle.aes.proofs.Widths.{length-cipher}
-use Rattle.ctr.proofs.Pieces.{xorStream-joined}
+use Rattle.ctr.proofs.Pieces.{xorStream-at, xorStream-joined}
 use Rattle.ctr.proofs.xor_stream.Statement.{statement}
 use Rattle.ctr.proofs.xor_stream.Tie as tie
 
 sub-rest : tie.Need-sub-rest
 sub-rest c = search needs
-
--- a place is in its block
-whole : (place : ℕ) → 16 * (place / 16) + place % 16 ≡ place
-whole place = omega arith
 
 xor-piece-requires : tie.Need-xor-piece-requires
 xor-piece-requires c κs = search needs
@@ -27,8 +23,7 @@ same-length c = search needs
 returns : tie.Need-returns
 returns c =
     let called = c .before .before in
-    let args = called .before .before .before .before .before .args in
-    rw (whole (args .place)) at (called .xor-piece .ensures)
+    xorStream-at _ _ _ _ _ (omega arith) (called .xor-piece .ensures)
 
 slice-aggregate-xor-piece : tie.Need-slice-aggregate-xor-piece
 slice-aggregate-xor-piece c = sym (length-take-le _ _ (omega arith))
@@ -66,9 +61,9 @@ returns-2 c =
     let called = c .before .before in
     let wrote = called .before .before .before .before .before in
     let args = wrote .before .before .before .before .before .before .args in
-    rw (whole (args .place)) at
-    (xorStream-joined _ (length-cipher (args .width) (args .keys .now)) (args .v) _ _ (16 * (args .place / 16) + args .place % 16) (args .src .now) (16 - args .place % 16) (omega arith) (omega arith) (omega arith)
-    (wrote .xor-piece2 .ensures) (called .xor-from .ensures))
+    xorStream-at _ _ _ _ _ (omega arith)
+    (xorStream-joined _ (length-cipher (args .width) (args .keys .now)) _ _ _ _ (args .src .now) _ (omega arith) (omega arith) (omega arith) (wrote .xor-piece2 .ensures)
+    (called .xor-from .ensures))
 
 pub xor-stream-spec : {M : Type 1} → statement M
 xor-stream-spec =
