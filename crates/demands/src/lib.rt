@@ -1,0 +1,1 @@
+// No code: the demands as theorems about the calls' definitions, in specs/ and proofs/.
