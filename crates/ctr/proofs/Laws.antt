@@ -2,11 +2,11 @@
 -- Assumes nothing.
 use mathlib.Core.Path.{_≡_, refl, sym, ap, ap₂, _∙_}
 use mathlib.Core.List.{List, [], _++_}
-use Prim.Native.Nat.{ℕ, zero, suc, _+_, _-_, _*_, _/_, _%_, _≤_, _<_}
+use Prim.Native.Nat.{ℕ, zero, suc, _+_, _-_, _*_, _/_, _≤_}
 use native.Mathlib.Nat.{add-zero, add-suc}
 use native.Mathlib.Omega.{arith}
 use lib.ListN.{length, take, drop, length-append, length-drop, take-append-drop}
-use lib.Seq.{take-all, take-take, take-append-le, take-add, take-at, drop-at, drop-drop, drop-append-add, length-take-le}
+use lib.Seq.{take-all, take-take, take-append-le, take-add, drop-at, drop-drop, drop-append-add, length-take-le}
 use Rattle.octets.specs.Octets.{xors}
 use Rattle.octets.proofs.Strings.{length-xors, xors-undo, xors-append, take-xors}
 use Rattle.ctr.specs.Counter.{clear, plus, streamBlocks, keyStream, xorStream}

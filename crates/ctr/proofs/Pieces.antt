@@ -2,13 +2,13 @@
 -- Assumes nothing.
 use mathlib.Core.Path.{_≡_, refl, sym, ap, ap₂, _∙_}
 use mathlib.Core.List.{List, [], _∷_, _++_, append-nil}
-use Prim.Native.Nat.{ℕ, _+_, _-_, _*_, _≤_, _<_}
+use Prim.Native.Nat.{ℕ, _+_, _-_, _*_, _≤_}
 use native.Mathlib.Nat.{add-zero}
 use native.Mathlib.Omega.{arith}
 use lib.ListN.{length, take, drop, length-drop, take-append-drop}
 use lib.Seq.{take-all, take-add, length-take-le}
 use Rattle.octets.specs.Octets.{xors, put}
-use Rattle.octets.proofs.Strings.{put-put, length-put, part-to}
+use Rattle.octets.proofs.Strings.{put-put, part-to}
 use Rattle.ctr.specs.Counter.{clear, plus, xorStream}
 use Rattle.ctr.proofs.Laws.{length-xorStream, xorStream-append, xorStream-block}
 
