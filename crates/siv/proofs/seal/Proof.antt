@@ -1,0 +1,83 @@
+-- `siv::seal` meets its contract.
+-- Assumes nothing.
+use borrow.Author.Needs.{needs}
+use mathlib.Core.Path.{_≡_, ap, sym, _∙_}
+use mathlib.Core.List.{List}
+use Prim.Native.Nat.{ℕ}
+use native.Mathlib.Omega.{arith}
+use lib.ListN.{length, replicate}
+use Rattle.octets.specs.Octets.{put}
+use Rattle.siv.specs.Answer.{Outcome}
+use Rattle.siv.specs.Calls.{sealNumber}
+use Rattle.siv.proofs.Laws.{told-refused, told-done, SealAdmits, seal-admits, seal-refused, seal-done}
+use Rattle.siv.proofs.seal.Statement.{statement}
+use Rattle.siv.proofs.seal.Tie as tie
+
+-- past the refusals none was due
+admitted : (c : tie.At-match-keys2)
+    → let a = c .before .before .before .before .before .before .before .before .args in
+    sealNumber (a .key .now) (a .header .now) (a .lens .now) (a .input .now) (a .output .now) (a .scratch .now) ≡ 0
+unfolding sealNumber
+admitted c = sym (ap (λ (o : Outcome). o .number) (c .before .judge-seal .ensures)) ∙ told-done (c .before .judge-seal .result) (c .match .keys2)
+
+admits : (c : tie.At-match-keys2)
+    → let a = c .before .before .before .before .before .before .before .before .args in
+    SealAdmits (a .key .now) (a .header .now) (a .lens .now) (a .input .now) (a .output .now) (a .scratch .now)
+admits c = seal-admits _ _ _ _ _ _ (admitted c)
+
+judge-seal-requires : tie.Need-judge-seal-requires
+judge-seal-requires c κs = search needs
+
+enum-told : tie.Need-enum-told
+enum-told c = search needs
+
+returns : tie.Need-returns
+unfolding sealNumber
+returns c = seal-refused _ _ _ _ _ _ _ (told-refused (c .before .before .judge-seal .result) (c .before .match .keys1)) (c .before .before .judge-seal .ensures)
+
+enum-told-2 : tie.Need-enum-told-2
+enum-told-2 c = search needs
+
+seal-admitted-requires : tie.Need-seal-admitted-requires
+seal-admitted-requires c κs =
+    let a = admits (c .before .before) in
+    (a .keyed, omega (arith, a .listed), omega (arith, a .roomy))
+
+scratch-need-requires : tie.Need-scratch-need-requires
+scratch-need-requires c κs = search needs
+
+zero-at-requires : tie.Need-zero-at-requires
+zero-at-requires c κs =
+    let a = admits (c .before .before .before .before .before .before .before) in
+    omega (arith, a .scratchy, c .scratch-need .ensures)
+
+add-t12 : tie.Need-add-t12
+add-t12 c = search needs
+
+same-length : tie.Need-same-length
+same-length c = search needs
+
+same-length-2 : tie.Need-same-length-2
+same-length-2 c = search needs
+
+returns-2 : tie.Need-returns-2
+returns-2 c =
+    let scratch = c .before .before .before .before .before .before .before .before .before .before .before .before .before .before .before .before .before .before .args .scratch .now in
+    seal-done _ _ _ _ _ _ _ _ (admitted (c .before .before .before .before .before .before .before .before .before .before)) (c .before .before .before .before .before .before .before .seal-admitted .ensures)
+    (c .before .before .zero-at .ensures ∙ ap (λ (n : ℕ). put scratch 0 (replicate n 0)) (c .before .before .before .scratch-need .ensures))
+
+pub seal-spec : {M : Type 1} → statement M
+seal-spec =
+    tie.close
+    (tie.spec
+    judge-seal-requires
+    enum-told
+    returns
+    enum-told-2
+    seal-admitted-requires
+    scratch-need-requires
+    zero-at-requires
+    add-t12
+    same-length
+    same-length-2
+    returns-2)

@@ -1,0 +1,63 @@
+-- `siv::work::make_tag` meets its contract.
+-- Assumes nothing.
+use borrow.Author.Needs.{needs}
+use mathlib.Core.Path.{_≡_, ap, sym, _∙_}
+use mathlib.Core.List.{List}
+use Prim.Native.Nat.{ℕ, _-_, _/_}
+use native.Mathlib.Nat.{sub-zero}
+use native.Mathlib.Omega.{arith}
+use lib.ListN.{length, take}
+use lib.Seq.{length-take-le}
+use Rattle.aes.specs.Aes.{isWidth}
+use Rattle.aes.specs.KeyExpansion.{roundKeys}
+use Rattle.header.specs.Header.{strings}
+use Rattle.s2v.specs.S2v.{s2v}
+use Rattle.siv.specs.Siv.{macKey, tagOf}
+use Rattle.siv.proofs.Laws.{KeyHalves, halves, aes-cipher}
+use Rattle.siv.proofs.work.make_tag.Statement.{statement}
+use Rattle.siv.proofs.work.make_tag.Tie as tie
+
+sub-half-keys : tie.Need-sub-half-keys
+sub-half-keys c = search needs
+
+part-half-keys-start : tie.Need-part-half-keys-start
+part-half-keys-start c = search needs
+
+part-half-keys-end : tie.Need-part-half-keys-end
+part-half-keys-end c = search needs
+
+half-keys-requires : tie.Need-half-keys-requires
+half-keys-requires c κs =
+    let start = c .before .before .before .before .before in
+    let key = start .args .key .now in
+    let h : KeyHalves (length key) = halves _ (start .pre .1) in
+    let long : length (take (length key / 2 - 0) key) ≡ length key / 2 = ap (λ (n : ℕ). length (take n key)) (sub-zero (length key / 2)) ∙ length-take-le _ key (omega arith) in
+    (search needs, ap isWidth long ∙ h .half)
+
+tag-under-requires : tie.Need-tag-under-requires
+tag-under-requires c κs =
+    let start = c .before .before .before .before .before .before .before in
+    let h : KeyHalves (length (start .args .key .now)) = halves _ (start .pre .1) in
+    (search needs, h .most, start .pre .2)
+
+returns : tie.Need-returns
+unfolding tagOf
+returns c =
+    let start = c .before .before .before .before .before .before .before .before in
+    let key = start .args .key .now in
+    let ss = strings (start .args .header .now) (start .args .lens .now) in
+    let h : KeyHalves (length key) = halves _ (start .pre .1) in
+    let long : length key / 2 ≡ length (macKey key) = sym (length-take-le _ key (omega arith)) in
+    let keys = c .before .before .half-keys .ensures ∙ ap (λ (n : ℕ). roundKeys (take n key)) (sub-zero (length key / 2)) in
+    c .tag-under .ensures ∙ ap (λ (E : List ℕ → List ℕ). s2v E ss (start .args .p .now)) (aes-cipher (macKey key) long keys)
+
+pub make-tag-spec : {M : Type 1} → statement M
+make-tag-spec =
+    tie.close
+    (tie.spec
+    sub-half-keys
+    part-half-keys-start
+    part-half-keys-end
+    half-keys-requires
+    tag-under-requires
+    returns)

@@ -1,0 +1,67 @@
+-- `siv::work::stream` meets its contract.
+-- Assumes nothing.
+use borrow.Author.Needs.{needs}
+use mathlib.Core.Path.{_≡_, ap, sym, _∙_}
+use mathlib.Core.List.{List}
+use Prim.Native.Nat.{ℕ, _-_, _/_}
+use native.Mathlib.Omega.{arith}
+use lib.ListN.{length, drop, length-drop}
+use Rattle.octets.specs.Octets.{put}
+use Rattle.octets.proofs.Strings.{part-rest}
+use Rattle.aes.specs.Aes.{isWidth}
+use Rattle.aes.specs.KeyExpansion.{roundKeys}
+use Rattle.ctr.specs.Counter.{xorStream}
+use Rattle.siv.specs.Siv.{ctrKey, streamed}
+use Rattle.siv.proofs.Laws.{KeyHalves, halves, aes-cipher}
+use Rattle.siv.proofs.work.stream.Statement.{statement}
+use Rattle.siv.proofs.work.stream.Tie as tie
+
+sub-half-keys : tie.Need-sub-half-keys
+sub-half-keys c = search needs
+
+part-half-keys-start : tie.Need-part-half-keys-start
+part-half-keys-start c = search needs
+
+part-half-keys-end : tie.Need-part-half-keys-end
+part-half-keys-end c = search needs
+
+half-keys-requires : tie.Need-half-keys-requires
+half-keys-requires c κs =
+    let start = c .before .before .before .before in
+    let key = start .args .key .now in
+    let h : KeyHalves (length key) = halves _ (start .pre .1) in
+    let long : length (drop (length key / 2) key) ≡ length key / 2 = simp length-drop (omega arith) in
+    (search needs, ap (λ (l : List ℕ). isWidth (length l)) (part-rest key (length key / 2)) ∙ ap isWidth long ∙ h .half)
+
+xor-stream-requires : tie.Need-xor-stream-requires
+xor-stream-requires c κs =
+    let start = c .before .before .before .before .before .before .before in
+    let h : KeyHalves (length (start .args .key .now)) = halves _ (start .pre .1) in
+    (search needs, h .most, start .pre .2)
+
+same-length : tie.Need-same-length
+same-length c = search needs
+
+returns : tie.Need-returns
+unfolding streamed
+returns c =
+    let start = c .before .before .before .before .before .before .before .before .before .before in
+    let args = start .args in
+    let key = args .key .now in
+    let h : KeyHalves (length key) = halves _ (start .pre .1) in
+    let long : length key / 2 ≡ length (ctrKey key) = simp length-drop (omega arith) in
+    let keys = c .before .before .before .before .before .half-keys .ensures ∙ ap roundKeys (part-rest key (length key / 2)) in
+    c .before .before .xor-stream .ensures
+    ∙ ap (λ (E : List ℕ → List ℕ). put (args .dst .now) (args .at) (xorStream E (args .v) 0 (args .src .now))) (aes-cipher (ctrKey key) long keys)
+
+pub stream-spec : {M : Type 1} → statement M
+stream-spec =
+    tie.close
+    (tie.spec
+    sub-half-keys
+    part-half-keys-start
+    part-half-keys-end
+    half-keys-requires
+    xor-stream-requires
+    same-length
+    returns)

@@ -1,0 +1,53 @@
+-- What a call answers: document 01's table of answers.
+-- Assumes nothing.
+use mathlib.Core.Bool.{Bool, true, false}
+use mathlib.Core.List.{List, [], _∷_}
+use Prim.Native.Nat.{ℕ}
+use Rattle.siv.specs.declared.Refusal.{Refusal}
+use Rattle.siv.specs.declared.Refusal.the-variants.{KeyLength, HeaderCount, HeaderLengths, TooLong, SealedLength, OutputShort, ScratchShort, Forged, State, EmptyNonce}
+use Rattle.siv.specs.declared.Answer.{Answer}
+use Rattle.siv.specs.declared.Answer.the-variants.{Done, Refused}
+
+-- the number and the length that a call returns
+pub record Outcome : Type 0 where
+  pub number : ℕ
+  pub count : ℕ
+
+-- a refusal's number in the table
+abbrev pub numberOf : Refusal → ℕ
+numberOf KeyLength = 1
+numberOf HeaderCount = 2
+numberOf HeaderLengths = 3
+numberOf TooLong = 4
+numberOf SealedLength = 5
+numberOf OutputShort = 6
+numberOf ScratchShort = 7
+numberOf Forged = 8
+numberOf State = 9
+numberOf EmptyNonce = 10
+
+-- every answer's number and length
+abbrev pub outcomeOf : Answer → Outcome
+outcomeOf (Done n) = record { number = 0; count = n }
+outcomeOf (Refused r) = record { number = numberOf r; count = 0 }
+
+-- a refusal with the condition under which it is due
+pub record Row : Type 0 where
+  pub number : ℕ
+  pub due : Bool
+
+abbrev pub row : ℕ → Bool → Row
+row n b = record { number = n; due = b }
+
+abbrev pub pickNumber : Bool → ℕ → ℕ → ℕ
+pickNumber true a b = a
+pickNumber false a b = b
+
+-- the number of the first row that is due, or 0
+abbrev pub first : List Row → ℕ
+first [] = 0
+first (r ∷ rs) = pickNumber (r .due) (r .number) (first rs)
+
+-- a number with length 0
+abbrev pub verdict : ℕ → Outcome
+verdict n = record { number = n; count = 0 }

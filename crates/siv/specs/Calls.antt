@@ -1,0 +1,91 @@
+-- Whole sealing and opening on every input: number, length and the last contents of each lent buffer, from document 01.
+-- Assumes nothing.
+use mathlib.Core.Path.{_≡_}
+use mathlib.Core.Bool.{Bool, true, false, not}
+use mathlib.Core.List.{List, [], _∷_, _++_}
+use Prim.Native.Nat.{ℕ, _+_, _-_, max}
+use lib.Dec.{ltb, eqb}
+use lib.ListN.{length, replicate}
+use Rattle.octets.specs.Octets.{put}
+use Rattle.cmac.specs.Cmac.{pickString}
+use Rattle.header.specs.Header.{total, strings}
+use Rattle.siv.specs.declared.Answer.{Answer}
+use Rattle.siv.specs.Answer.{Outcome, Row, row, first, pickNumber, outcomeOf}
+use Rattle.siv.specs.Siv.{sealed, opened, genuine}
+
+abbrev pub either : Bool → Bool → Bool
+either true b = true
+either false b = b
+
+-- keys have 32, 48 or 64 bytes
+unfoldable pub isKeyLength : ℕ → Bool
+isKeyLength n = either (eqb n 32) (either (eqb n 48) (eqb n 64))
+
+-- the longest plaintext
+abbrev pub limit : ℕ
+limit = 1048576
+
+-- the scratch that a plaintext of n bytes needs
+abbrev pub scratchNeed : ℕ → ℕ
+scratchNeed n = max n 16
+
+-- the refusals that judge key and header list
+abbrev pub headerRows : ℕ → List ℕ → ℕ → List Row
+headerRows keyLength lens headerLength =
+    row 1 (not (isKeyLength keyLength)) ∷ row 2 (ltb 126 (length lens)) ∷ row 3 (not (eqb (total lens) headerLength)) ∷ []
+
+-- the refusals that judge a plaintext's length and the buffers lent to seal it
+abbrev pub sealRows : ℕ → ℕ → ℕ → List Row
+sealRows n output scratch = row 4 (ltb limit n) ∷ row 6 (ltb output (n + 16)) ∷ row 7 (ltb scratch (scratchNeed n)) ∷ []
+
+-- the refusals that judge a sealed string's length and the buffers lent to open it
+abbrev pub openRows : ℕ → ℕ → ℕ → List Row
+openRows y output scratch =
+    row 5 (ltb y 16) ∷ row 4 (ltb (limit + 16) y) ∷ row 6 (ltb output (y - 16)) ∷ row 7 (ltb scratch (scratchNeed (y - 16))) ∷ []
+
+-- everything that a whole call does: number and length, and the last contents of output and scratch
+pub record Result : Type 0 where
+  pub outcome : Outcome
+  pub output : List ℕ
+  pub scratch : List ℕ
+
+-- a call gave what its definition says
+pub record Did (result : Result) (answer : Answer) (lastOutput lastScratch : List ℕ) : Type 0 where
+  pub outcome : outcomeOf answer ≡ result .outcome
+  pub output : lastOutput ≡ result .output
+  pub scratch : lastScratch ≡ result .scratch
+
+module _ (key bytes lens input output scratch : List ℕ) where
+  -- the number that sealing returns
+  unfoldable pub sealNumber : ℕ
+  sealNumber = first (headerRows (length key) lens (length bytes) ++ sealRows (length input) (length output) (length scratch))
+
+  -- sealing: input is the plaintext
+  unfoldable pub sealCall : Result
+  sealCall =
+      let n = length input in
+      let done = eqb sealNumber 0 in
+      record {
+        outcome = record { number = sealNumber; count = pickNumber done (n + 16) 0 };
+        output = pickString done (put output 0 (sealed key (strings bytes lens) input)) output;
+        scratch = pickString done (put scratch 0 (replicate (scratchNeed n) 0)) scratch;
+      }
+
+  -- the number that opening returns
+  unfoldable pub openNumber : ℕ
+  openNumber =
+      first
+      (headerRows (length key) lens (length bytes) ++ openRows (length input) (length output) (length scratch)
+      ++ (row 8 (not (genuine key (strings bytes lens) input)) ∷ []))
+
+  -- opening: input is the sealed string
+  unfoldable pub openCall : Result
+  openCall =
+      let n = length input - 16 in
+      let done = eqb openNumber 0 in
+      let forged = eqb openNumber 8 in
+      record {
+        outcome = record { number = openNumber; count = pickNumber done n 0 };
+        output = pickString done (put output 0 (opened key input)) (pickString forged (put output 0 (replicate n 0)) output);
+        scratch = pickString (either done forged) (put scratch 0 (replicate (scratchNeed n) 0)) scratch;
+      }

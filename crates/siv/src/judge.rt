@@ -1,0 +1,82 @@
+// Which refusal is due, from lengths alone.
+ghost use mathlib.Core.Path.{_≡_};
+ghost use mathlib.Core.Bool.{not};
+ghost use mathlib.Core.List.{_++_};
+ghost use Rattle.siv.specs.Answer.{outcomeOf, first, verdict};
+ghost use Rattle.siv.specs.Calls.{isKeyLength, scratchNeed, headerRows, sealRows, openRows};
+use crate::Answer;
+use crate::LIMIT;
+use crate::Refusal;
+
+// Whether a key may not have n bytes.
+fn bad_key_len(n: usize) -> bool
+    ensures { λ r. ⌜ r ≡ not (isKeyLength n) ⌝ }
+{
+    if n == 32 {
+        return false;
+    }
+    if n == 48 {
+        return false;
+    }
+    n != 64
+}
+
+// The scratch that a plaintext of n bytes needs.
+pub(crate) fn scratch_need(n: usize) -> usize
+    ensures { λ r. ⌜ r ≡ scratchNeed n ⌝ }
+{
+    if n < 16 {
+        return 16;
+    }
+    n
+}
+
+// The refusals of key and header list.
+pub(crate) fn judge_header(key_len: usize, lens: &[u32], header_len: usize) -> Answer
+    ensures { λ r. ⌜ outcomeOf r ≡ verdict (first (headerRows «key_len» (now (lens .entry)) «header_len»)) ⌝ }
+{
+    if bad_key_len(key_len) {
+        return Answer::Refused(Refusal::KeyLength);
+    }
+    if header::too_many(lens.len()) {
+        return Answer::Refused(Refusal::HeaderCount);
+    }
+    if header::sums_to(lens, header_len) {
+        return Answer::Done(0);
+    }
+    Answer::Refused(Refusal::HeaderLengths)
+}
+
+// The refusals of a plaintext's length and of the buffers lent to seal it.
+fn judge_plaintext(n: usize, output: usize, scratch: usize) -> Answer
+    ensures { λ r. ⌜ outcomeOf r ≡ verdict (first (sealRows n output scratch)) ⌝ }
+{
+    if LIMIT < n {
+        return Answer::Refused(Refusal::TooLong);
+    }
+    if output < n + 16 {
+        return Answer::Refused(Refusal::OutputShort);
+    }
+    if scratch < scratch_need(n) {
+        return Answer::Refused(Refusal::ScratchShort);
+    }
+    Answer::Done(0)
+}
+
+// The refusals of sealing.
+pub(crate) fn judge_seal(
+    key_len: usize,
+    lens: &[u32],
+    header_len: usize,
+    n: usize,
+    output: usize,
+    scratch: usize,
+) -> Answer
+    ensures { λ r. ⌜ outcomeOf r ≡ verdict (first (headerRows «key_len» (now (lens .entry)) «header_len» ++ sealRows n output scratch)) ⌝ }
+{
+    let answer = judge_header(key_len, lens, header_len);
+    if let Answer::Refused(_) = answer {
+        return answer;
+    }
+    judge_plaintext(n, output, scratch)
+}

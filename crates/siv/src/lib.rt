@@ -1,0 +1,66 @@
+// Whole sealing and opening, AES-SIV as RFC 5297 has it, with document 01's answers.
+mod judge;
+mod work;
+
+ghost use Rattle.siv.specs.Calls.{Did, sealCall};
+
+// The longest plaintext.
+pub const LIMIT: usize = 1048576;
+
+// Why a call is refused, in the order of the numbers.
+pub enum Refusal {
+    // The key has not 32, 48 or 64 bytes.
+    KeyLength,
+    // More than 126 header strings.
+    HeaderCount,
+    // The lengths do not sum to the header bytes.
+    HeaderLengths,
+    // The plaintext, or the sealed string, is too long.
+    TooLong,
+    // The sealed string is shorter than a tag, or a tag has not 16 bytes.
+    SealedLength,
+    // The output is too short.
+    OutputShort,
+    // The scratch is too short.
+    ScratchShort,
+    // The recomputed tag is not the given one.
+    Forged,
+    // The stream state is not one for this call.
+    State,
+    // The nonce is empty.
+    EmptyNonce,
+}
+
+// Success with a count of bytes, or a refusal.
+pub enum Answer {
+    Done(usize),
+    Refused(Refusal),
+}
+
+// Seals input under a key and a header list: the tag, then the ciphertext, to the front of output.
+pub fn seal(
+    key: &[u8],
+    header: &[u8],
+    lens: &[u32],
+    input: &[u8],
+    output: &mut [u8],
+    scratch: &mut [u8],
+) -> Answer
+    ensures { λ r. ⌜ Did (sealCall (now (key .entry)) (now (header .entry)) (now (lens .entry)) (now (input .entry)) (now (output .entry)) (now (scratch .entry))) r (now (output .exit)) (now (scratch .exit)) ⌝ }
+{
+    let n = input.len();
+    let verdict = judge::judge_seal(
+        key.len(),
+        lens,
+        header.len(),
+        n,
+        output.len(),
+        scratch.len(),
+    );
+    if let Answer::Refused(_) = verdict {
+        return verdict;
+    }
+    work::seal_admitted(key, header, lens, input, output);
+    octets::zero_at(scratch, 0, judge::scratch_need(n));
+    Answer::Done(n + 16)
+}
