@@ -3,27 +3,30 @@
 use mathlib.Core.Path.{_≡_, refl, ap, ap₂, sym, subst, _∙_}
 use mathlib.Core.Bool.{Bool, true, false, not, false≢true, true≢false}
 use mathlib.Core.List.{List, [], _∷_, _++_}
-use Prim.Native.Nat.{ℕ, suc, _+_, _*_, _/_, _≤_, _<_}
+use Prim.Native.Nat.{ℕ, suc, _+_, _-_, _/_, _≤_}
 use native.Mathlib.Omega.{arith}
 use lib.Dec.{eqb, ltb}
-use lib.ListN.{length, replicate}
-use borrow.Author.Tests.{eqb-true, ne-eqb, ltb-false, not-false}
+use lib.ListN.{length, take, drop, replicate, length-drop, length-replicate}
+use lib.Seq.{drop-append-add, drop-drop}
+use borrow.Author.Tests.{eqb-true, eq-eqb, ne-eqb, ltb-false, not-false}
 use Rattle.aes.specs.Aes.{isWidth, aes, expansion}
 use Rattle.aes.specs.Cipher.{cipher}
 use Rattle.aes.specs.KeyExpansion.{roundKeys}
 use Rattle.header.specs.Header.{total, strings}
 use Rattle.octets.specs.Octets.{both, put}
+use Rattle.octets.proofs.Strings.{take-put}
 use Rattle.octets.proofs.Tests.{both-left, both-right}
+use Rattle.ctr.proofs.Laws.{length-xorStream}
 use types.Run.{OneOf}
 use denote.Enum.Declared.{tagOf}
 use Rattle.siv.specs.declared.Answer.{Answer}
 use Rattle.siv.specs.declared.Answer.the-variants.{Done, Refused}
 use Rattle.siv.specs.declared.Refusal.{Refusal}
 use Rattle.siv.specs.declared.Refusal.the-variants.{KeyLength, HeaderCount, HeaderLengths, TooLong, SealedLength, OutputShort, ScratchShort, Forged, State, EmptyNonce}
-use Rattle.siv.specs.Answer.{Outcome, Row, pickNumber, first, numberOf, outcomeOf, verdict}
-use Rattle.siv.specs.Siv.{sealed}
+use Rattle.siv.specs.Answer.{Outcome, Row, row, pickNumber, first, numberOf, outcomeOf, verdict}
+use Rattle.siv.specs.Siv.{ctrKey, streamed, sealed, opened, genuine}
 use Rattle.siv.proofs.Answer.{the-type}
-use Rattle.siv.specs.Calls.{either, isKeyLength, limit, scratchNeed, Did, sealNumber, sealCall}
+use Rattle.siv.specs.Calls.{either, isKeyLength, limit, scratchNeed, headerRows, openRows, Did, sealNumber, sealCall, openNumber, openCall}
 
 -- ---- keys
 
@@ -47,18 +50,27 @@ halves n e = go (eqb n 32) (eqb n 48) (eqb-true n 32) (eqb-true n 48) (eqb-true 
 
 -- ---- the order of refusals
 
--- every row has a number other than 0
-abbrev pub numbered : List Row → Bool
-numbered [] = true
-numbered (r ∷ rs) = both (not (eqb (r .number) 0)) (numbered rs)
+-- no row has the number n
+abbrev pub lacks : ℕ → List Row → Bool
+lacks n [] = true
+lacks n (r ∷ rs) = both (not (eqb (r .number) n)) (lacks n rs)
+
+-- a number that no row has is not the first due
+pub first-not : (n : ℕ) (rs : List Row) → lacks n rs ≡ true → (0 ≡ n → ⊥) → first rs ≡ n → ⊥
+first-not n [] l z e = z e
+first-not n (r ∷ rs) l z e = go (r .due) (first-not n rs (both-right (not (eqb (r .number) n)) (lacks n rs) l) z) e
+  where
+    go : (d : Bool) → (first rs ≡ n → ⊥) → pickNumber d (r .number) (first rs) ≡ n → ⊥
+    go true ih p = false≢true (sym (ap not (eq-eqb (r .number) n p)) ∙ both-left (not (eqb (r .number) n)) (lacks n rs) l)
+    go false ih p = ih p
 
 -- where no row of the first list is due, the second decides
-pub first-pass : (a b : List Row) → numbered a ≡ true → first a ≡ 0 → first (a ++ b) ≡ first b
-first-pass [] b s e = refl
-first-pass (r ∷ a) b s e = go (r .due) (first-pass a b (both-right (not (eqb (r .number) 0)) (numbered a) s)) e
+pub first-pass : (a b : List Row) → lacks 0 a ≡ true → first a ≡ 0 → first (a ++ b) ≡ first b
+first-pass [] b l e = refl
+first-pass (r ∷ a) b l e = go (r .due) (first-pass a b (both-right (not (eqb (r .number) 0)) (lacks 0 a) l)) e
   where
     go : (d : Bool) → (first a ≡ 0 → first (a ++ b) ≡ first b) → pickNumber d (r .number) (first a) ≡ 0 → pickNumber d (r .number) (first (a ++ b)) ≡ first b
-    go true ih p = absurd (false≢true (sym (ap (λ (n : ℕ). not (eqb n 0)) p) ∙ both-left (not (eqb (r .number) 0)) (numbered a) s))
+    go true ih p = absurd (false≢true (sym (ap not (eq-eqb (r .number) 0 p)) ∙ both-left (not (eqb (r .number) 0)) (lacks 0 a) l))
     go false ih p = ih p
 
 -- where a row of the first list is due, it decides
@@ -151,3 +163,116 @@ module _ (key bytes lens input output scratch : List ℕ) where
       → Did (sealCall key bytes lens input output scratch) (Done (length input + 16)) output′ scratch′
   unfolding sealCall
   seal-done output′ scratch′ e p q = record { outcome = simp e; output = simp e p; scratch = simp e q }
+
+-- ---- whole opening
+
+-- what opening's refusals but 8 leave
+pub record OpenAdmits (key bytes lens input output scratch : List ℕ) : Type 0 where
+  pub keyed : isKeyLength (length key) ≡ true
+  pub listed : total lens ≡ length bytes
+  pub tagged : 16 ≤ length input
+  pub limited : length input ≤ 1048592
+  pub roomy : length input - 16 ≤ length output
+  pub scratchy : scratchNeed (length input - 16) ≤ length scratch
+
+-- zeros written over what was written before them
+pub put-over : (l a b : List ℕ) → length a ≤ length b → put (put l 0 a) 0 b ≡ put l 0 b
+unfolding put
+put-over l a b h =
+    let past : 0 + length b ≡ length a + (length b - length a) = omega arith in
+    let whole : 0 + length a + (length b - length a) ≡ 0 + length b = omega arith in
+    let rest : drop (0 + length b) (a ++ drop (0 + length a) l) ≡ drop (0 + length b) l =
+    ap (λ (n : ℕ). drop n (a ++ drop (0 + length a) l)) past
+    ∙ drop-append-add a (drop (0 + length a) l) (length b - length a)
+    ∙ drop-drop (length b - length a) (0 + length a) l
+    ∙ ap (λ (n : ℕ). drop n l) whole in
+    ap (λ (t : List ℕ). b ++ t) rest
+
+pub length-opened : (key y : List ℕ) → length (opened key y) ≡ length y - 16
+unfolding opened streamed
+length-opened key y = length-xorStream (aes (ctrKey key)) (take 16 y) 0 (drop 16 y) ∙ length-drop 16 y
+
+-- the plaintext, read off the front of the scratch that it was written to
+pub text-read : (key y scratch : List ℕ) {used : List ℕ} → used ≡ put scratch 0 (opened key y) → length y - 16 ≤ length scratch → take (length y - 16 - 0) used ≡ opened key y
+text-read key y scratch u h =
+    let long : length (opened key y) ≡ length y - 16 = length-opened key y in
+    let count : length y - 16 - 0 ≡ 0 + length (opened key y) = omega arith in
+    ap₂ take count u ∙ take-put scratch 0 (opened key y) (omega arith)
+
+-- the scratch is zero once zeros are written over what was used of it
+pub scratch-wiped : (key y scratch : List ℕ) (need : ℕ) {used last : List ℕ} → used ≡ put scratch 0 (opened key y) → need ≡ scratchNeed (length y - 16)
+    → last ≡ put used 0 (replicate need 0) → last ≡ put scratch 0 (replicate (scratchNeed (length y - 16)) 0)
+scratch-wiped key y scratch need u n e =
+    let long : length (opened key y) ≡ length y - 16 = length-opened key y in
+    let zeros : length (replicate {A = ℕ} need 0) ≡ need = length-replicate {A = ℕ} need 0 in
+    e
+    ∙ ap (λ (l : List ℕ). put l 0 (replicate need 0)) u
+    ∙ put-over scratch (opened key y) (replicate need 0) (omega arith)
+    ∙ ap (λ (m : ℕ). put scratch 0 (replicate m 0)) n
+
+module _ (key bytes lens input output scratch : List ℕ) where
+  -- the number that opening's judgement gives
+  abbrev pub openJudged : ℕ
+  openJudged = first (headerRows (length key) lens (length bytes) ++ openRows (length input) (length output) (length scratch))
+
+  pub open-admits : openJudged ≡ 0 → OpenAdmits key bytes lens input output scratch
+  open-admits e =
+      let a = not-due (not (isKeyLength (length key))) 0 _ e in
+      let b = not-due (ltb 126 (length lens)) 1 _ (a .1) in
+      let d = not-due (not (eqb (total lens) (length bytes))) 2 _ (b .1) in
+      let f = not-due (ltb (length input) 16) 4 _ (d .1) in
+      let g = not-due (ltb (limit + 16) (length input)) 3 _ (f .1) in
+      let h = not-due (ltb (length output) (length input - 16)) 5 _ (g .1) in
+      let i = not-due (ltb (length scratch) (scratchNeed (length input - 16))) 6 0 (h .1) in
+      record {
+        keyed = not-false (isKeyLength (length key)) (a .0);
+        listed = eqb-true (total lens) (length bytes) (not-false (eqb (total lens) (length bytes)) (d .0));
+        tagged = ltb-false (length input) 16 (f .0);
+        limited = ltb-false (limit + 16) (length input) (g .0);
+        roomy = ltb-false (length output) (length input - 16) (h .0);
+        scratchy = ltb-false (length scratch) (scratchNeed (length input - 16)) (i .0);
+      }
+
+  number : ℕ
+  number = openNumber key bytes lens input output scratch
+
+  rows : List Row
+  rows = headerRows (length key) lens (length bytes) ++ openRows (length input) (length output) (length scratch)
+
+  -- a refusal of the judgement is opening's
+  stops : (openJudged ≡ 0 → ⊥) → number ≡ openJudged
+  unfolding number rows openNumber
+  stops due = first-stop rows (row 8 (not (genuine key (strings bytes lens) input)) ∷ []) due
+
+  -- past the judgement the tag decides
+  passes : openJudged ≡ 0 → number ≡ pickNumber (not (genuine key (strings bytes lens) input)) 8 0
+  unfolding number rows openNumber
+  passes judged = first-pass rows (row 8 (not (genuine key (strings bytes lens) input)) ∷ []) refl judged
+
+  not-eight : openJudged ≡ 8 → ⊥
+  unfolding rows
+  not-eight e = first-not 8 rows refl (λ q. omega arith) e
+
+  pub open-refused : (answer : Answer) → (outcomeOf answer .number ≡ 0 → ⊥) → outcomeOf answer ≡ verdict openJudged
+      → Did (openCall key bytes lens input output scratch) answer output scratch
+  unfolding openCall number
+  open-refused answer k e =
+      let due : openJudged ≡ 0 → ⊥ = λ z. k (ap (λ (o : Outcome). o .number) e ∙ z) in
+      let off : eqb number 0 ≡ false = ne-eqb number 0 (λ z. due (sym (stops due) ∙ z)) in
+      let off8 : eqb number 8 ≡ false = ne-eqb number 8 (λ z. not-eight (sym (stops due) ∙ z)) in
+      record { outcome = simp off (e ∙ ap verdict (sym (stops due))); output = simp (off, off8); scratch = simp (off, off8) }
+
+  module _ (output′ scratch′ : List ℕ) (judged : openJudged ≡ 0) (wiped : scratch′ ≡ put scratch 0 (replicate (scratchNeed (length input - 16)) 0)) where
+    pub open-done : genuine key (strings bytes lens) input ≡ true → output′ ≡ put output 0 (opened key input)
+        → Did (openCall key bytes lens input output scratch) (Done (length input - 16)) output′ scratch′
+    unfolding openCall number
+    open-done g p =
+        let none : number ≡ 0 = passes judged ∙ ap (λ (b : Bool). pickNumber (not b) 8 0) g in
+        record { outcome = simp none; output = simp none p; scratch = simp none wiped }
+
+    pub open-forged : genuine key (strings bytes lens) input ≡ false → output′ ≡ put output 0 (replicate (length input - 16) 0)
+        → Did (openCall key bytes lens input output scratch) (Refused Forged) output′ scratch′
+    unfolding openCall number
+    open-forged g p =
+        let eight : number ≡ 8 = passes judged ∙ ap (λ (b : Bool). pickNumber (not b) 8 0) g in
+        record { outcome = simp eight; output = simp eight p; scratch = simp eight wiped }

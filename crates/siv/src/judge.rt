@@ -80,3 +80,40 @@ pub(crate) fn judge_seal(
     }
     judge_plaintext(n, output, scratch)
 }
+
+// The refusals of a sealed string's length and of the buffers lent to open it.
+fn judge_sealed(y: usize, output: usize, scratch: usize) -> Answer
+    ensures { λ r. ⌜ outcomeOf r ≡ verdict (first (openRows y output scratch)) ⌝ }
+{
+    if y < 16 {
+        return Answer::Refused(Refusal::SealedLength);
+    }
+    if LIMIT + 16 < y {
+        return Answer::Refused(Refusal::TooLong);
+    }
+    if output < y - 16 {
+        return Answer::Refused(Refusal::OutputShort);
+    }
+    if scratch < scratch_need(y - 16) {
+        return Answer::Refused(Refusal::ScratchShort);
+    }
+    Answer::Done(0)
+}
+
+// The refusals of opening but for a forged string.
+pub(crate) fn judge_open(
+    key_len: usize,
+    lens: &[u32],
+    header_len: usize,
+    y: usize,
+    output: usize,
+    scratch: usize,
+) -> Answer
+    ensures { λ r. ⌜ outcomeOf r ≡ verdict (first (headerRows «key_len» (now (lens .entry)) «header_len» ++ openRows y output scratch)) ⌝ }
+{
+    let answer = judge_header(key_len, lens, header_len);
+    if let Answer::Refused(_) = answer {
+        return answer;
+    }
+    judge_sealed(y, output, scratch)
+}

@@ -2,7 +2,7 @@
 mod judge;
 mod work;
 
-ghost use Rattle.siv.specs.Calls.{Did, sealCall};
+ghost use Rattle.siv.specs.Calls.{Did, sealCall, openCall};
 
 // The longest plaintext.
 pub const LIMIT: usize = 1048576;
@@ -63,4 +63,38 @@ pub fn seal(
     work::seal_admitted(key, header, lens, input, output);
     octets::zero_at(scratch, 0, judge::scratch_need(n));
     Answer::Done(n + 16)
+}
+
+// Opens a sealed string under a key and a header list: the plaintext to the front of output, once it is approved.
+pub fn open(
+    key: &[u8],
+    header: &[u8],
+    lens: &[u32],
+    input: &[u8],
+    output: &mut [u8],
+    scratch: &mut [u8],
+) -> Answer
+    ensures { λ r. ⌜ Did (openCall (now (key .entry)) (now (header .entry)) (now (lens .entry)) (now (input .entry)) (now (output .entry)) (now (scratch .entry))) r (now (output .exit)) (now (scratch .exit)) ⌝ }
+{
+    let y = input.len();
+    let verdict = judge::judge_open(
+        key.len(),
+        lens,
+        header.len(),
+        y,
+        output.len(),
+        scratch.len(),
+    );
+    if let Answer::Refused(_) = verdict {
+        return verdict;
+    }
+    let n = y - 16;
+    if work::open_admitted(key, header, lens, input, scratch) {
+        octets::copy_at(output, 0, &scratch[0..n]);
+        octets::zero_at(scratch, 0, judge::scratch_need(n));
+        return Answer::Done(n);
+    }
+    octets::zero_at(output, 0, n);
+    octets::zero_at(scratch, 0, judge::scratch_need(n));
+    Answer::Refused(Refusal::Forged)
 }

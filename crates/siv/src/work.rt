@@ -11,7 +11,7 @@ ghost use Rattle.aes.specs.Tables.{Ready};
 ghost use Rattle.header.specs.Header.{total, strings};
 ghost use Rattle.s2v.specs.S2v.{s2v};
 ghost use Rattle.siv.specs.Calls.{isKeyLength};
-ghost use Rattle.siv.specs.Siv.{tagOf, streamed, sealed};
+ghost use Rattle.siv.specs.Siv.{tagOf, streamed, sealed, opened, genuine};
 use aes::Engine;
 use aes::RoundKeys;
 use octets::Block;
@@ -78,4 +78,23 @@ pub(crate) fn seal_admitted(
     let v = make_tag(&engine, key, header, lens, input);
     octets::store(output, 0, v);
     stream(&engine, key, v, input, output, 16);
+}
+
+// Opens to the front of scratch, and says whether the recomputed tag is the given one.
+pub(crate) fn open_admitted(
+    key: &[u8],
+    header: &[u8],
+    lens: &[u32],
+    sealed: &[u8],
+    scratch: &mut [u8],
+) -> bool
+    requires { ⌜ (isKeyLength (length (now key)) ≡ true) × (total (now lens) ≤ length (now header)) × (16 ≤ length (now sealed)) × (length (now sealed) ≤ 16 + length (now scratch)) ⌝ }
+    ensures { λ r. ⌜ (r ≡ genuine (now (key .entry)) (strings (now (header .entry)) (now (lens .entry))) (now (sealed .entry))) × (now (scratch .exit) ≡ put (now (scratch .entry)) 0 (opened (now (key .entry)) (now (sealed .entry)))) ⌝ }
+{
+    let engine = aes::engine();
+    let n = sealed.len() - 16;
+    let v = octets::load(sealed, 0);
+    stream(&engine, key, v, &sealed[16..], scratch, 0);
+    let t = make_tag(&engine, key, header, lens, &scratch[0..n]);
+    octets::same_block(t, v)
 }

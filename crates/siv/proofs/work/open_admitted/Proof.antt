@@ -1,0 +1,87 @@
+-- `siv::work::open_admitted` meets its contract.
+-- Assumes nothing.
+use borrow.Author.Needs.{needs}
+use mathlib.Core.Path.{_≡_, ap, ap₂, _∙_}
+use mathlib.Core.List.{List}
+use Prim.Native.Nat.{ℕ}
+use native.Mathlib.Omega.{arith}
+use lib.ListN.{take}
+use Rattle.octets.specs.Octets.{put, same}
+use Rattle.octets.proofs.Strings.{part-rest}
+use Rattle.header.specs.Header.{strings}
+use Rattle.siv.specs.Siv.{tagOf, streamed, opened, genuine}
+use Rattle.siv.proofs.Laws.{text-read}
+use Rattle.siv.proofs.work.open_admitted.Statement.{statement}
+use Rattle.siv.proofs.work.open_admitted.Tie as tie
+
+engine-requires : tie.Need-engine-requires
+engine-requires c κs = search needs
+
+sub-n : tie.Need-sub-n
+sub-n c = search needs
+
+load-requires : tie.Need-load-requires
+load-requires c κs = search needs
+
+sub-stream : tie.Need-sub-stream
+sub-stream c = search needs
+
+part-stream-start : tie.Need-part-stream-start
+part-stream-start c = search needs
+
+part-stream-end : tie.Need-part-stream-end
+part-stream-end c = search needs
+
+stream-requires : tie.Need-stream-requires
+stream-requires c κs = search needs
+
+sub-make-tag : tie.Need-sub-make-tag
+sub-make-tag c = search needs
+
+part-make-tag-start : tie.Need-part-make-tag-start
+part-make-tag-start c = search needs
+
+part-make-tag-end : tie.Need-part-make-tag-end
+part-make-tag-end c = search needs
+
+make-tag-requires : tie.Need-make-tag-requires
+make-tag-requires c κs = search needs
+
+same-block-requires : tie.Need-same-block-requires
+same-block-requires c κs = search needs
+
+same-length : tie.Need-same-length
+same-length c = search needs
+
+returns : tie.Need-returns
+unfolding opened genuine
+returns c =
+    let start = c .before .before .before .before .before .before .before .before .before .before .before .before .before .before .before .before .before .before in
+    let args = start .args in
+    let key = args .key .now in
+    let y = args .sealed .now in
+    let scratch = args .scratch .now in
+    let ss = strings (args .header .now) (args .lens .now) in
+    let loaded = c .before .before .before .before .before .before .before .before .before .before .before .load .ensures in
+    let text = c .before .before .before .before .before .before .before .stream .ensures ∙ ap (put scratch 0) (ap₂ (streamed key) loaded (part-rest y 16)) in
+    let tagged = c .before .make-tag .ensures ∙ ap (tagOf key ss) (text-read key y scratch text (omega arith)) in
+    (c .same-block .ensures ∙ ap₂ same tagged loaded, text)
+
+pub open-admitted-spec : {M : Type 1} → statement M
+open-admitted-spec =
+    tie.close
+    (tie.spec
+    engine-requires
+    sub-n
+    load-requires
+    sub-stream
+    part-stream-start
+    part-stream-end
+    stream-requires
+    sub-make-tag
+    part-make-tag-start
+    part-make-tag-end
+    make-tag-requires
+    same-block-requires
+    same-length
+    returns)
