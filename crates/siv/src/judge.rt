@@ -1,25 +1,11 @@
 // Which refusal is due, from lengths alone.
 ghost use mathlib.Core.Path.{_≡_};
-ghost use mathlib.Core.Bool.{not};
 ghost use mathlib.Core.List.{_++_};
 ghost use Rattle.siv.specs.Answer.{outcomeOf, first, verdict};
-ghost use Rattle.siv.specs.Calls.{isKeyLength, scratchNeed, headerRows, sealRows, openRows};
+ghost use Rattle.siv.specs.Calls.{scratchNeed, headerRows, sealRows, openRows};
 use crate::Answer;
 use crate::LIMIT;
 use crate::Refusal;
-
-// Whether a key may not have n bytes.
-fn bad_key_len(n: usize) -> bool
-    ensures { λ r. ⌜ r ≡ not (isKeyLength n) ⌝ }
-{
-    if n == 32 {
-        return false;
-    }
-    if n == 48 {
-        return false;
-    }
-    n != 64
-}
 
 // The scratch that a plaintext of n bytes needs.
 pub(crate) fn scratch_need(n: usize) -> usize
@@ -35,7 +21,7 @@ pub(crate) fn scratch_need(n: usize) -> usize
 pub(crate) fn judge_header(key_len: usize, lens: &[u32], header_len: usize) -> Answer
     ensures { λ r. ⌜ outcomeOf r ≡ verdict (first (headerRows «key_len» (now (lens .entry)) «header_len»)) ⌝ }
 {
-    if bad_key_len(key_len) {
+    if !crate::is_key_len(key_len) {
         return Answer::Refused(Refusal::KeyLength);
     }
     if header::too_many(lens.len()) {

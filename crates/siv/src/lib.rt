@@ -2,7 +2,8 @@
 mod judge;
 mod work;
 
-ghost use Rattle.siv.specs.Calls.{Did, sealCall, openCall};
+ghost use mathlib.Core.Path.{_≡_};
+ghost use Rattle.siv.specs.Calls.{isKeyLength, Did, sealCall, openCall};
 
 // The longest plaintext.
 pub const LIMIT: usize = 1048576;
@@ -35,6 +36,19 @@ pub enum Refusal {
 pub enum Answer {
     Done(usize),
     Refused(Refusal),
+}
+
+// Whether a key may have n bytes.
+pub fn is_key_len(n: usize) -> bool
+    ensures { λ r. ⌜ r ≡ isKeyLength n ⌝ }
+{
+    if n == 32 {
+        return true;
+    }
+    if n == 48 {
+        return true;
+    }
+    n == 64
 }
 
 // Seals input under a key and a header list: the tag, then the ciphertext, to the front of output.

@@ -1,9 +1,9 @@
--- `siv::judge::bad_key_len` meets its contract.
+-- `siv::is_key_len` meets its contract.
 -- Assumes nothing.
 use borrow.Author.Tests.{eq-eqb, ne-eqb}
 use Rattle.siv.specs.Calls.{isKeyLength}
-use Rattle.siv.proofs.judge.bad_key_len.Statement.{statement}
-use Rattle.siv.proofs.judge.bad_key_len.Tie as tie
+use Rattle.siv.proofs.is_key_len.Statement.{statement}
+use Rattle.siv.proofs.is_key_len.Tie as tie
 
 returns : tie.Need-returns
 unfolding isKeyLength
@@ -17,5 +17,5 @@ returns-3 : tie.Need-returns-3
 unfolding isKeyLength
 returns-3 c = simp (ne-eqb _ _ (c .before .if1 .left), ne-eqb _ _ (c .if2 .left))
 
-pub bad-key-len-spec : {M : Type 1} → statement M
-bad-key-len-spec = tie.close (tie.spec returns returns-2 returns-3)
+pub is-key-len-spec : {M : Type 1} → statement M
+is-key-len-spec = tie.close (tie.spec returns returns-2 returns-3)

@@ -1,0 +1,48 @@
+-- `kinphlor::kinphlor_open` meets its contract.
+-- Assumes nothing.
+use borrow.Author.Needs.{needs}
+use mathlib.Core.Path.{sym, _∙_}
+use Rattle.kinphlor.proofs.Laws.{door-refused, door-call}
+use Rattle.kinphlor.proofs.kinphlor_open.Statement.{statement}
+use Rattle.kinphlor.proofs.kinphlor_open.Tie as tie
+
+empty-nonce-requires : tie.Need-empty-nonce-requires
+empty-nonce-requires c κs = search needs
+
+pack-requires : tie.Need-pack-requires
+pack-requires c κs = search needs
+
+returns : tie.Need-returns
+returns c = door-refused _ _ _ _ _ (sym (c .before .before .empty-nonce .ensures) ∙ c .before .if1 .taken) (c .pack .ensures)
+
+slice-aggregate-open : tie.Need-slice-aggregate-open
+slice-aggregate-open c = search needs
+
+open-requires : tie.Need-open-requires
+open-requires c κs = search needs
+
+pack-requires-2 : tie.Need-pack-requires-2
+pack-requires-2 c κs = search needs
+
+same-length : tie.Need-same-length
+same-length c = search needs
+
+same-length-2 : tie.Need-same-length-2
+same-length-2 c = search needs
+
+returns-2 : tie.Need-returns-2
+returns-2 c = door-call _ _ _ _ _ (sym (c .before .before .before .before .before .before .before .before .before .before .empty-nonce .ensures) ∙ c .before .before .before .before .before .before .before .before .before .if1 .left) (c .before .before .before .before .before .open .ensures) (c .pack2 .ensures)
+
+pub kinphlor-open-spec : {M : Type 1} → statement M
+kinphlor-open-spec =
+    tie.close
+    (tie.spec
+    empty-nonce-requires
+    pack-requires
+    returns
+    slice-aggregate-open
+    open-requires
+    pack-requires-2
+    same-length
+    same-length-2
+    returns-2)
