@@ -6,6 +6,7 @@ use crate::library::{Args, Function, LIMIT, TAG_LEN};
 use crate::peers::{Libcrypto, Libgcrypt, Peer};
 use crate::random::Random;
 use std::collections::BTreeSet;
+use std::sync::OnceLock;
 use Function::{Open, Seal};
 
 const KEY_LENS: [usize; 3] = [32, 48, 64];
@@ -83,11 +84,13 @@ const GUARD: usize = 32;
 
 impl Lent {
     fn new(len: usize) -> Lent {
-        Lent { memory: Lent::pattern(len + 2 * GUARD), len }
+        Lent { memory: Lent::pattern(len + 2 * GUARD).to_vec(), len }
     }
 
-    fn pattern(len: usize) -> Vec<u8> {
-        (0..len).map(|i| (i as u8).wrapping_mul(31) | 1).collect()
+    /// The pattern's first bytes, made once.
+    fn pattern(len: usize) -> &'static [u8] {
+        static PATTERN: OnceLock<Vec<u8>> = OnceLock::new();
+        &PATTERN.get_or_init(|| (0..LIMIT + 1024).map(|i| (i as u8).wrapping_mul(31) | 1).collect())[..len]
     }
 
     fn slice(&mut self) -> &mut [u8] {
@@ -287,7 +290,7 @@ impl Cases {
             for end in [[0x3a, 0x10], [0xff, 0xfe], [0xff, 0xff]] {
                 let found = (0..1 << 22).any(|_| {
                     record.nonce = self.random.bytes(12);
-                    self.libcrypto.seal(&record.key, &record.header(), &record.text)[..TAG_LEN].ends_with(&end)
+                    self.libgcrypt.seal(&record.key, &record.header(), &record.text)[..TAG_LEN].ends_with(&end)
                 });
                 check::holds(|| format!("no nonce gives a tag that ends in {}", check::hex(&end)), found);
                 let sealed = self.compare(&record);
@@ -297,14 +300,16 @@ impl Cases {
     }
 
     /// Tags from which the counter carries out of its last byte, its last two, three and four (into the bit that Q
-    /// clears, set or not in the tag), in the second block, in the third and in the last.
+    /// clears, set or not in the tag), in the second block, in the third and in the last; at the limit in the last only.
     pub fn chosen_tags(&mut self) {
         let mut random = Random(self.random.next());
         for key_len in KEY_LENS {
             for n in [40, 41, 48, 100, 4099, LIMIT] {
-                let last = n as u64 / 16 - (n as u64 % 16 == 0) as u64;
+                let last = (n as u64 - 1) / 16;
+                let places = BTreeSet::from(if n < LIMIT { [1, 2, last] } else { [last; 3] });
                 let carries = [(1, 8), (2, 16), (3, 24), (4, 31), (4, 32)].into_iter().flat_map(|(count, bits)| {
-                    [1, 2, last].map(|at| (1u64 << bits).wrapping_sub(at).to_be_bytes()[8 - count..].to_vec())
+                    let end = move |at: u64| (1u64 << bits).wrapping_sub(at).to_be_bytes()[8 - count..].to_vec();
+                    places.iter().map(move |&at| end(at))
                 });
                 for end in carries.chain([vec![0x3a, 0x10], vec![0xff; TAG_LEN]]) {
                     let mut record = Record::random(&mut random, key_len, 20, 12, n);
