@@ -94,10 +94,12 @@ static void nulls(void) {
     CHECK_RESULT("no key", kinphlor_seal_nullable(NULL, 0, NULL, 0, 0, 0, NULL, 0, NULL, 0, NULL, 0), KINPHLOR_KEY_LENGTH, 0);
     CHECK_RESULT("no key", kinphlor_open_nullable(NULL, 0, NULL, 0, 0, 0, NULL, 0, NULL, 0, NULL, 0), KINPHLOR_KEY_LENGTH, 0);
     CHECK_RESULT("no associated data and no nonce",
-                 kinphlor_seal_nullable(key, 32, NULL, 0, 0, 0, plain, PLAIN_LEN, sealed, sizeof sealed, scratch, sizeof scratch),
+                 kinphlor_seal_nullable(key, 32, NULL, 0, 0, 0, plain, PLAIN_LEN, sealed, sizeof sealed, scratch,
+                                        sizeof scratch),
                  KINPHLOR_EMPTY_NONCE, 0);
     CHECK_RESULT("no header but lengths",
-                 kinphlor_seal_nullable(key, 32, NULL, 0, 0, 16, plain, PLAIN_LEN, sealed, sizeof sealed, scratch, sizeof scratch),
+                 kinphlor_seal_nullable(key, 32, NULL, 0, 0, 16, plain, PLAIN_LEN, sealed, sizeof sealed, scratch,
+                                        sizeof scratch),
                  KINPHLOR_HEADER_LENGTH, 0);
     CHECK_RESULT("no sealed record", kinphlor_open_nullable(key, 32, header, 16, 0, 16, NULL, 0, NULL, 0, NULL, 0),
                  KINPHLOR_TOO_SHORT, 0);

@@ -269,7 +269,8 @@ impl Cases {
         }
     }
 
-    /// Every single bit of a sealed record flipped.
+    /// Every single bit of a sealed record flipped; and of its tag with the text enciphered for that tag, so that only the
+    /// comparison of this bit can tell.
     pub fn every_bit(&mut self) {
         for key_len in KEY_LENS {
             let record = Record::random(&mut self.random, key_len, 20, 12, 40);
@@ -278,6 +279,11 @@ impl Cases {
                 let mut forged = sealed.clone();
                 forged.text[bit / 8] ^= 1 << (bit % 8);
                 self.forged(&forged, 0, "one bit");
+                if bit < 8 * TAG_LEN {
+                    let tag = forged.text[..TAG_LEN].try_into().unwrap();
+                    let text = chosen::sealed_under(&self.libcrypto, &record.key, &tag, &record.text);
+                    self.forged(&record.with_text(&text), 0, "one bit of the tag before enciphering");
+                }
             }
         }
     }

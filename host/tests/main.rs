@@ -32,9 +32,10 @@ fn main() {
         ("tags chosen by where the counter carries", cases::Cases::chosen_tags),
     ];
     for (what, part) in parts {
+        println!("host: {what}");
         let (start, before) = (Instant::now(), check::passed());
         part(&mut cases);
-        println!("host: {what}: {} checks, {:.1} s", check::passed() - before, start.elapsed().as_secs_f64());
+        println!("host:     {} checks, {:.1} s", check::passed() - before, start.elapsed().as_secs_f64());
     }
     println!("host: {} checks passed", check::passed());
 }

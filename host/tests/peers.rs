@@ -52,6 +52,7 @@ fn width_index(half: usize) -> usize {
 pub struct Libcrypto {
     siv: [*mut c_void; 3],
     cbc: [*mut c_void; 3],
+    ctr: [*mut c_void; 3],
 }
 
 /// A cipher context with a key, freed at the end.
@@ -104,16 +105,26 @@ impl Libcrypto {
         Libcrypto {
             siv: [c"AES-128-SIV", c"AES-192-SIV", c"AES-256-SIV"].map(fetch),
             cbc: [c"AES-128-CBC", c"AES-192-CBC", c"AES-256-CBC"].map(fetch),
+            ctr: [c"AES-128-CTR", c"AES-192-CTR", c"AES-256-CTR"].map(fetch),
         }
     }
 
     /// AES in CBC mode from a zero block, either way; on one block that is the cipher itself.
     pub fn cbc(&self, key: &[u8], encrypt: bool, blocks: &[u8]) -> Vec<u8> {
-        let evp = Evp::new(self.cbc[width_index(key.len())], key, [0; 16].as_ptr(), encrypt);
-        let mut out = vec![0; blocks.len() + 16];
+        Libcrypto::aes(&self.cbc, key, &[0; 16], encrypt, blocks)
+    }
+
+    /// AES in counter mode from a block on.
+    pub fn ctr(&self, key: &[u8], first: &[u8; 16], text: &[u8]) -> Vec<u8> {
+        Libcrypto::aes(&self.ctr, key, first, true, text)
+    }
+
+    fn aes(mode: &[*mut c_void; 3], key: &[u8], iv: &[u8; 16], encrypt: bool, text: &[u8]) -> Vec<u8> {
+        let evp = Evp::new(mode[width_index(key.len())], key, iv.as_ptr(), encrypt);
+        let mut out = vec![0; text.len() + 16];
         need("EVP_CIPHER_CTX_set_padding", unsafe { EVP_CIPHER_CTX_set_padding(evp.0, 0) } == 1);
-        need("EVP_CipherUpdate", evp.update(blocks, out.as_mut_ptr()) && evp.finish());
-        out.truncate(blocks.len());
+        need("EVP_CipherUpdate", evp.update(text, out.as_mut_ptr()) && evp.finish());
+        out.truncate(text.len());
         out
     }
 
