@@ -140,10 +140,10 @@ const DAMAGES: [(&str, fn(&mut Record, &mut Random) -> bool); 9] = [
         let half = r.key.len() / 2;
         flip(&mut r.key[..half], random)
     }),
-    // An empty plaintext has no key stream, so this half does not matter to it.
+    // This half gives the key stream: an empty plaintext has none, and the few bytes of a short one may come out the same.
     ("second half of the key", |r, random| {
         let half = r.key.len() / 2;
-        r.text.len() > TAG_LEN && flip(&mut r.key[half..], random)
+        r.text.len() >= TAG_LEN + 16 && flip(&mut r.key[half..], random)
     }),
     ("place where the nonce starts", |r, _| {
         let moves = r.nonce.len() > 1;
