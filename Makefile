@@ -3,3 +3,6 @@
 
 test:
 	rt ci
+
+# Tests of the archive from Rust and C: host-test.
+include host/Makefile

@@ -1,0 +1,479 @@
+//! What is run: records against both peers, damage, the table of answers, and tags chosen by their end.
+
+use crate::check;
+use crate::chosen;
+use crate::library::{Args, Function, LIMIT, TAG_LEN};
+use crate::peers::{Libcrypto, Libgcrypt, Peer};
+use crate::random::Random;
+use std::collections::BTreeSet;
+use std::sync::OnceLock;
+use Function::{Open, Seal};
+
+const KEY_LENS: [usize; 3] = [32, 48, 64];
+const AD_LENS: [usize; 5] = [0, 1, 15, 16, 17];
+const NONCE_LENS: [usize; 4] = [1, 15, 16, 17];
+
+/// A key, a header and a text: the plaintext to seal or the sealed string to open.
+#[derive(Clone)]
+struct Record {
+    key: Vec<u8>,
+    ad: Vec<u8>,
+    nonce: Vec<u8>,
+    text: Vec<u8>,
+}
+
+impl Record {
+    fn random(random: &mut Random, key_len: usize, ad_len: usize, nonce_len: usize, text_len: usize) -> Record {
+        let [key, ad, nonce, text] = [key_len, ad_len, nonce_len, text_len].map(|len| random.bytes(len));
+        Record { key, ad, nonce, text }
+    }
+
+    fn header(&self) -> [&[u8]; 2] {
+        [&self.ad, &self.nonce]
+    }
+
+    fn with_text(&self, text: &[u8]) -> Record {
+        Record { text: text.to_vec(), ..self.clone() }
+    }
+
+    /// A call on the record in memory that has `more` bytes than it needs.
+    fn run(&self, function: Function, more: usize, want: Want) -> Vec<u8> {
+        let need = Room::need(function, self.text.len());
+        self.run_in(function, Room { output: need.output + more, scratch: need.scratch + more }, want)
+    }
+
+    fn run_in(&self, function: Function, room: Room, want: Want) -> Vec<u8> {
+        let args = Args {
+            key: &self.key,
+            header: &self.header().concat(),
+            ad_len: self.ad.len() as u32,
+            nonce_len: self.nonce.len() as u32,
+            input: &self.text,
+        };
+        run(function, &args, room, want)
+    }
+}
+
+/// Lengths of the memory lent for writing.
+#[derive(Clone, Copy)]
+struct Room {
+    output: usize,
+    scratch: usize,
+}
+
+impl Room {
+    fn need(function: Function, input_len: usize) -> Room {
+        Room { output: function.output_need(input_len), scratch: function.scratch_need(input_len) }
+    }
+}
+
+/// What a call must do.
+enum Want<'a> {
+    Written(&'a [u8]),
+    Refused(u64),
+    Forged,
+}
+
+/// Lent memory, filled with a pattern that has no zero byte, between two guards of the same pattern.
+struct Lent {
+    memory: Vec<u8>,
+    len: usize,
+}
+
+const GUARD: usize = 32;
+
+impl Lent {
+    fn new(len: usize) -> Lent {
+        Lent { memory: Lent::pattern(len + 2 * GUARD).to_vec(), len }
+    }
+
+    /// The pattern's first bytes, made once.
+    fn pattern(len: usize) -> &'static [u8] {
+        static PATTERN: OnceLock<Vec<u8>> = OnceLock::new();
+        &PATTERN.get_or_init(|| (0..LIMIT + 1024).map(|i| (i as u8).wrapping_mul(31) | 1).collect())[..len]
+    }
+
+    fn slice(&mut self) -> &mut [u8] {
+        &mut self.memory[GUARD..GUARD + self.len]
+    }
+
+    /// It holds `front`, and the pattern in all later bytes and in the guards.
+    fn check(&self, what: impl Fn(&str) -> String, front: &[u8]) {
+        let pattern = Lent::pattern(self.memory.len());
+        let later = GUARD + front.len();
+        check::bytes(|| what("front"), front, &self.memory[GUARD..later]);
+        check::bytes(|| what("memory before it"), &pattern[..GUARD], &self.memory[..GUARD]);
+        check::bytes(|| what("later bytes"), &pattern[later..], &self.memory[later..]);
+    }
+}
+
+/// One call: its number, its length and every byte of the lent memory. Gives what is at the front of the output.
+fn run(function: Function, args: &Args, room: Room, want: Want) -> Vec<u8> {
+    let n = function.plain_len(args.input.len());
+    let (answer, front, wiped) = match want {
+        Want::Written(bytes) => ((0, bytes.len() as u64), bytes.to_vec(), function.scratch_need(args.input.len())),
+        Want::Refused(number) => ((number, 0), vec![], 0),
+        Want::Forged => ((8, 0), vec![0; n], function.scratch_need(args.input.len())),
+    };
+    let (mut output, mut scratch) = (Lent::new(room.output), Lent::new(room.scratch));
+    let got = function.call(args, output.slice(), scratch.slice());
+
+    let call = || {
+        format!(
+            "{function:?}, lengths: key {}, header {} (ad {}, nonce {}), input {}, output {}, scratch {}",
+            args.key.len(), args.header.len(), args.ad_len, args.nonce_len, args.input.len(), room.output, room.scratch
+        )
+    };
+    check::holds(|| format!("{}: expected number and length {answer:?}, got {got:?}", call()), got == answer);
+    output.check(|part| format!("{}: answer {got:?}, output, {part}", call()), &front);
+    scratch.check(|part| format!("{}: answer {got:?}, scratch, {part}", call()), &vec![0; wiped]);
+    output.slice()[..front.len()].to_vec()
+}
+
+/// Ways to damage a sealed record. One that has nothing to damage says so with false.
+const DAMAGES: [(&str, fn(&mut Record, &mut Random) -> bool); 9] = [
+    ("tag", |r, random| flip(&mut r.text[..TAG_LEN], random)),
+    ("text", |r, random| flip(&mut r.text[TAG_LEN..], random)),
+    ("associated data", |r, random| flip(&mut r.ad, random)),
+    ("nonce", |r, random| flip(&mut r.nonce, random)),
+    ("first half of the key", |r, random| {
+        let half = r.key.len() / 2;
+        flip(&mut r.key[..half], random)
+    }),
+    // This half gives the key stream: an empty plaintext has none, and the few bytes of a short one may come out the same.
+    ("second half of the key", |r, random| {
+        let half = r.key.len() / 2;
+        r.text.len() >= TAG_LEN + 16 && flip(&mut r.key[half..], random)
+    }),
+    ("place where the nonce starts", |r, _| {
+        let moves = r.nonce.len() > 1;
+        if moves {
+            r.ad.push(r.nonce.remove(0));
+        }
+        moves
+    }),
+    ("last byte cut", |r, _| r.text.len() > TAG_LEN && r.text.pop().is_some()),
+    ("byte appended", |r, _| {
+        let fits = r.text.len() < LIMIT + TAG_LEN;
+        if fits {
+            r.text.push(0);
+        }
+        fits
+    }),
+];
+
+/// Flips one bit.
+fn flip(bytes: &mut [u8], random: &mut Random) -> bool {
+    if !bytes.is_empty() {
+        bytes[random.below(bytes.len())] ^= 1 << random.below(8);
+    }
+    !bytes.is_empty()
+}
+
+pub struct Cases {
+    pub libcrypto: Libcrypto,
+    pub libgcrypt: Libgcrypt,
+    pub random: Random,
+}
+
+impl Cases {
+    /// The peers that take a plaintext of n bytes; one at least.
+    fn peers(&self, n: usize) -> impl Iterator<Item = &dyn Peer> {
+        [&self.libcrypto as &dyn Peer, &self.libgcrypt].into_iter().filter(move |peer| peer.takes(n))
+    }
+
+    /// RFC 5297, appendix A, by the peers: they are called as they should be.
+    pub fn peers_have_the_rfcs_examples(&mut self) {
+        for (key, header, plain, sealed) in RFC5297_APPENDIX_A {
+            let (key, plain, sealed) = (unhex(key), unhex(plain), unhex(sealed));
+            let strings: Vec<Vec<u8>> = header.iter().map(|s| unhex(s)).collect();
+            let header: Vec<&[u8]> = strings.iter().map(|s| &s[..]).collect();
+            for peer in self.peers(plain.len()) {
+                check::bytes(|| format!("{} on RFC 5297, A", peer.name()), &sealed, &peer.seal(&key, &header, &plain));
+                check::holds(
+                    || format!("{} does not open RFC 5297, A", peer.name()),
+                    peer.open(&key, &header, &sealed).as_ref() == Some(&plain),
+                );
+            }
+        }
+    }
+
+    /// Sealed as the peers seal it, in memory just large enough and larger; opened here and by the peers.
+    fn compare(&mut self, record: &Record) -> Record {
+        let n = record.text.len();
+        let sealed = self.libgcrypt.seal(&record.key, &record.header(), &record.text);
+        let more = 1 + self.random.below(40);
+        let by_us = record.with_text(&record.run(Seal, 0, Want::Written(&sealed)));
+        record.run(Seal, more, Want::Written(&sealed));
+        for peer in self.peers(n) {
+            let what = |does| format!("{} {does} {n} bytes, key {}", peer.name(), record.key.len());
+            let by_peer = record.with_text(&peer.seal(&record.key, &record.header(), &record.text));
+            check::bytes(|| what("seals"), &by_us.text, &by_peer.text);
+            by_peer.run(Open, 0, Want::Written(&record.text));
+            by_peer.run(Open, more, Want::Written(&record.text));
+            let opened = peer.open(&record.key, &record.header(), &by_us.text);
+            check::bytes(|| what("opens"), &record.text, &opened.unwrap_or_default());
+        }
+        by_us
+    }
+
+    /// Each kind of damage is found, here and by the peers.
+    fn damage(&mut self, sealed: &Record) {
+        for (what, damage) in DAMAGES {
+            let mut forged = sealed.clone();
+            if damage(&mut forged, &mut self.random) {
+                let more = self.random.below(3);
+                self.forged(&forged, more, what);
+            }
+        }
+    }
+
+    fn forged(&self, forged: &Record, more: usize, what: &str) {
+        forged.run(Open, more, Want::Forged);
+        for peer in self.peers(forged.text.len() - TAG_LEN) {
+            let opened = peer.open(&forged.key, &forged.header(), &forged.text);
+            check::holds(|| format!("{} opens a record with damage: {what}", peer.name()), opened.is_none());
+        }
+    }
+
+    /// Output or scratch one byte short.
+    fn short(&self, record: &Record, function: Function) {
+        let need = Room::need(function, record.text.len());
+        if need.output > 0 {
+            record.run_in(function, Room { output: need.output - 1, ..need }, Want::Refused(6));
+        }
+        record.run_in(function, Room { scratch: need.scratch - 1, ..need }, Want::Refused(7));
+    }
+
+    fn whole(&mut self, record: &Record) {
+        let sealed = self.compare(record);
+        self.damage(&sealed);
+        self.short(record, Seal);
+        self.short(&sealed, Open);
+    }
+
+    /// Every length to 200 with every header, then around each power of two to the limit with a header in turn.
+    pub fn lengths(&mut self) {
+        let headers: Vec<(usize, usize)> = AD_LENS.iter().flat_map(|&a| NONCE_LENS.map(|n| (a, n))).collect();
+        let long = (8..=20).flat_map(|k| [(1 << k) - 1, 1 << k, (1 << k) + 1]).filter(|&n| n <= LIMIT);
+        let lens: Vec<usize> = (0..=200).chain(long).collect();
+        let mut turn = headers.iter().cycle();
+        for key_len in KEY_LENS {
+            for &n in &lens {
+                let count = if n <= 200 { headers.len() } else { 1 };
+                for &(ad_len, nonce_len) in turn.by_ref().take(count) {
+                    let record = Record::random(&mut self.random, key_len, ad_len, nonce_len, n);
+                    self.whole(&record);
+                }
+            }
+        }
+    }
+
+    /// Every single bit of a sealed record flipped; and of its tag with the text enciphered for that tag, so that only the
+    /// comparison of this bit can tell.
+    pub fn every_bit(&mut self) {
+        for key_len in KEY_LENS {
+            let record = Record::random(&mut self.random, key_len, 20, 12, 40);
+            let sealed = self.compare(&record);
+            for bit in 0..8 * sealed.text.len() {
+                let mut forged = sealed.clone();
+                forged.text[bit / 8] ^= 1 << (bit % 8);
+                self.forged(&forged, 0, "one bit");
+                if bit < 8 * TAG_LEN {
+                    let tag = forged.text[..TAG_LEN].try_into().unwrap();
+                    let text = chosen::sealed_under(&self.libcrypto, &record.key, &tag, &record.text);
+                    self.forged(&record.with_text(&text), 0, "one bit of the tag before enciphering");
+                }
+            }
+        }
+    }
+
+    /// Nonces are tried until a tag of 40 bytes has each of these ends. The counter carries out of two bytes in the
+    /// third block after ff fe, in the second after ff ff, and not after 3a 10.
+    pub fn searched_tags(&mut self) {
+        for key_len in KEY_LENS {
+            let mut record = Record::random(&mut self.random, key_len, 20, 12, 40);
+            for end in [[0x3a, 0x10], [0xff, 0xfe], [0xff, 0xff]] {
+                let found = (0..1 << 22).any(|_| {
+                    record.nonce = self.random.bytes(12);
+                    self.libgcrypt.seal(&record.key, &record.header(), &record.text)[..TAG_LEN].ends_with(&end)
+                });
+                check::holds(|| format!("no nonce gives a tag that ends in {}", check::hex(&end)), found);
+                let sealed = self.compare(&record);
+                self.damage(&sealed);
+            }
+        }
+    }
+
+    /// Tags from which the counter carries out of its last byte, its last two, three and four (into the bit that Q
+    /// clears, set or not in the tag), in the second block, in the third and in the last; at the limit in the last only.
+    pub fn chosen_tags(&mut self) {
+        let mut random = Random(self.random.next());
+        for key_len in KEY_LENS {
+            for n in [40, 41, 48, 100, 4099, LIMIT] {
+                let last = (n as u64 - 1) / 16;
+                let places = BTreeSet::from(if n < LIMIT { [1, 2, last] } else { [last; 3] });
+                let carries = [(1, 8), (2, 16), (3, 24), (4, 31), (4, 32)].into_iter().flat_map(|(count, bits)| {
+                    let end = move |at: u64| (1u64 << bits).wrapping_sub(at).to_be_bytes()[8 - count..].to_vec();
+                    places.iter().map(move |&at| end(at))
+                });
+                for end in carries.chain([vec![0x3a, 0x10], vec![0xff; TAG_LEN]]) {
+                    let mut record = Record::random(&mut random, key_len, 20, 12, n);
+                    let mut tag: [u8; TAG_LEN] = random.bytes(TAG_LEN).try_into().unwrap();
+                    tag[TAG_LEN - end.len()..].copy_from_slice(&end);
+                    record.text = chosen::plaintext(&self.libcrypto, &record.key, &record.header(), &tag, record.text.clone());
+                    let sealed = self.compare(&record);
+                    check::bytes(|| format!("the tag chosen for {n} bytes"), &tag, &sealed.text[..TAG_LEN]);
+                }
+            }
+        }
+    }
+
+    /// The table of answers: every case with at most three things out of the ordinary.
+    pub fn answers(&mut self) {
+        let bytes = self.random.bytes(LIMIT + 64);
+        for function in [Seal, Open] {
+            let mut due_together = BTreeSet::new();
+            for case in Case::all(function) {
+                let due: Vec<u64> = REFUSALS.iter().filter(|(_, applies)| applies(&case)).map(|r| r.0).collect();
+                for (i, &first) in due.iter().enumerate() {
+                    due_together.extend(due[i..].iter().map(|&other| (first, other)));
+                }
+                self.answer(&case, due.first().copied(), &bytes);
+            }
+            for (i, &(first, _)) in REFUSALS.iter().enumerate() {
+                for &(other, _) in &REFUSALS[i..] {
+                    let never = NEVER_TOGETHER.contains(&(first, other))
+                        || function == Seal && [5, 8].iter().any(|open_only| [first, other].contains(open_only));
+                    check::holds(
+                        || format!("{function:?}: {first} and {other} due at once: the cases have it: {never}"),
+                        due_together.contains(&(first, other)) != never,
+                    );
+                }
+            }
+        }
+    }
+
+    fn answer(&mut self, case: &Case, refusal: Option<u64>, bytes: &[u8]) {
+        let (ad_len, nonce_len, header_len) = case.header;
+        let mut args = Args {
+            key: &bytes[..case.key_len],
+            header: &bytes[1..1 + header_len],
+            ad_len,
+            nonce_len,
+            input: &bytes[..case.input_len],
+        };
+        // Where the header can be split and the key used, there is a record that a peer sealed.
+        let usable = !REFUSALS[..5].iter().any(|(_, applies)| applies(case));
+        let plain = &bytes[..case.function.plain_len(case.input_len)];
+        let mut sealed = vec![];
+        if usable {
+            let (ad, nonce) = args.header.split_at(ad_len as usize);
+            sealed = self.libgcrypt.seal(args.key, &[ad, nonce], plain);
+            if case.function == Open {
+                if case.damaged {
+                    flip(&mut sealed, &mut self.random);
+                }
+                args.input = &sealed;
+            }
+        }
+        let want = match (refusal, case.function) {
+            (Some(8), _) => Want::Forged,
+            (Some(number), _) => Want::Refused(number),
+            (None, Seal) => Want::Written(&sealed),
+            (None, Open) => Want::Written(plain),
+        };
+        run(case.function, &args, case.room(), want);
+    }
+}
+
+/// Lengths and numbers of a call.
+struct Case {
+    function: Function,
+    key_len: usize,
+    /// ad_len, nonce_len and the header's own length
+    header: (u32, u32, usize),
+    input_len: usize,
+    output: fn(usize) -> usize,
+    scratch: fn(usize) -> usize,
+    damaged: bool,
+}
+
+/// The refusals in the order in which they are given, each with its condition.
+const REFUSALS: [(u64, fn(&Case) -> bool); 8] = [
+    (1, |c| !KEY_LENS.contains(&c.key_len)),
+    (10, |c| c.header.1 == 0),
+    (3, |c| c.header.0 as u64 + c.header.1 as u64 != c.header.2 as u64),
+    (5, |c| c.function == Open && c.input_len < TAG_LEN),
+    (4, |c| c.function.plain_len(c.input_len) > LIMIT),
+    (6, |c| c.room().output < c.function.output_need(c.input_len)),
+    (7, |c| c.room().scratch < c.function.scratch_need(c.input_len)),
+    (8, |c| c.function == Open && c.damaged && c.input_len >= TAG_LEN),
+];
+
+/// A sealed string under 16 bytes is not too long, needs no output and has no tag.
+const NEVER_TOGETHER: [(u64, u64); 3] = [(5, 4), (5, 6), (5, 8)];
+
+/// What a case is made of; the first of each is the ordinary one. The last two headers sum to their length in 32 bits.
+const CASE_KEYS: [usize; 12] = [32, 48, 64, 0, 16, 31, 33, 47, 49, 63, 65, 128];
+const CASE_HEADERS: [(u32, u32, usize); 10] = [
+    (20, 12, 32), (0, 12, 12), (20, 0, 20), (0, 0, 0), (0, 0, 1), (20, 12, 31), (20, 12, 33), (20, 12, 0),
+    (u32::MAX, 33, 32), (1 << 31, 1 << 31, 0),
+];
+const CASE_INPUTS: [usize; 9] = [40, 0, 15, 16, 17, LIMIT, LIMIT + 1, LIMIT + TAG_LEN, LIMIT + TAG_LEN + 1];
+const CASE_ROOMS: [fn(usize) -> usize; 5] =
+    [|need| need, |need| need + 5, |need| need.saturating_sub(1), |need| need.saturating_sub(16), |_| 0];
+
+impl Case {
+    fn room(&self) -> Room {
+        let need = Room::need(self.function, self.input_len);
+        Room { output: (self.output)(need.output), scratch: (self.scratch)(need.scratch) }
+    }
+
+    fn all(function: Function) -> impl Iterator<Item = Case> {
+        let counts = [CASE_KEYS.len(), CASE_HEADERS.len(), CASE_INPUTS.len(), CASE_ROOMS.len(), CASE_ROOMS.len(), 2];
+        (0..counts.iter().product()).filter_map(move |mut code: usize| {
+            let at = counts.map(|count| {
+                let index = code % count;
+                code /= count;
+                index
+            });
+            (at.iter().filter(|&&index| index != 0).count() <= 3).then(|| Case {
+                function,
+                key_len: CASE_KEYS[at[0]],
+                header: CASE_HEADERS[at[1]],
+                input_len: CASE_INPUTS[at[2]],
+                output: CASE_ROOMS[at[3]],
+                scratch: CASE_ROOMS[at[4]],
+                damaged: at[5] == 1,
+            })
+        })
+    }
+}
+
+fn unhex(text: &str) -> Vec<u8> {
+    let digits: Vec<u32> = text.chars().filter_map(|c| c.to_digit(16)).collect();
+    digits.chunks(2).map(|pair| (pair[0] << 4 | pair[1]) as u8).collect()
+}
+
+/// Key, header strings, plaintext, sealed string of A.1 and A.2.
+#[rustfmt::skip]
+const RFC5297_APPENDIX_A: [(&str, &[&str], &str, &str); 2] = [
+    (
+        "fffefdfc fbfaf9f8 f7f6f5f4 f3f2f1f0 f0f1f2f3 f4f5f6f7 f8f9fafb fcfdfeff",
+        &["10111213 14151617 18191a1b 1c1d1e1f 20212223 24252627"],
+        "11223344 55667788 99aabbcc ddee",
+        "85632d07 c6e8f37f 950acd32 0a2ecc93 40c02b96 90c4dc04 daef7f6a fe5c",
+    ),
+    (
+        "7f7e7d7c 7b7a7978 77767574 73727170 40414243 44454647 48494a4b 4c4d4e4f",
+        &[
+            "00112233 44556677 8899aabb ccddeeff deaddada deaddada ffeeddcc bbaa9988 77665544 33221100",
+            "10203040 50607080 90a0",
+            "09f91102 9d74e35b d84156c5 635688c0",
+        ],
+        "74686973 20697320 736f6d65 20706c61 696e7465 78742074 6f20656e 63727970 74207573 696e6720 5349562d 414553",
+        "7bdb6e3b 432667eb 06f4d14b ff2fbd0f cb900f2f ddbe4043 26601965 c889bf17 dba77ceb 094fa663 b7a3f748 ba8af829
+         ea64ad54 4a272e9c 485b62a3 fd5c0d",
+    ),
+];

@@ -1,0 +1,139 @@
+/*
+ * kinphlor.h: AES-SIV (RFC 5297) over whole records.
+ *
+ * The header of a record is two strings, associated data and then a nonce, as in section 3 of the RFC. A sealed record
+ * is the tag of 16 bytes, then the ciphertext, which is as long as the plaintext.
+ *
+ * Both functions take the same arguments. n is the plaintext's length.
+ *
+ *   key, key_len        32, 48 or 64 bytes. The first half serves the tag, the second half the key stream.
+ *   header, header_len  the associated data, directly followed by the nonce
+ *   ad_len, nonce_len   the lengths of these two. Their sum must be header_len; nonce_len must not be 0.
+ *   input, input_len    seal: the plaintext, n bytes. open: the sealed record, n + 16 bytes.
+ *   output, output_len  seal: room for n + 16 bytes. open: room for n bytes.
+ *   scratch,            working memory: n bytes, and at least 16 (kinphlor_scratch_len)
+ *     scratch_len
+ *
+ * The result is one number: the answer times 2 to the power 32, plus a length (kinphlor_number, kinphlor_length). The
+ * length is that of what was written from the front of the output, and 0 after a refusal. The answers are listed below;
+ * where several are due, the first in this order is given: 1, 10, 2, 3, 5, 4, 6, 7, 8.
+ *
+ * What memory holds afterwards:
+ *
+ *   success         the sealed record or the plaintext at the front of the output; zeros in the scratch bytes that were
+ *                   needed
+ *   8 (forged)      zeros in the first n bytes of the output, and in the scratch bytes that were needed. No byte of an
+ *                   unapproved plaintext is ever in the output.
+ *   other refusals  output and scratch are untouched
+ *
+ * Bytes of output and scratch past these keep their values. Key, header and input are only read.
+ *
+ * The proof assumes of the caller: each pointer is valid for its length and is not null, even where the length is 0
+ * (the _nullable functions lift that); output and scratch overlap neither each other nor key, header or input. So a
+ * record is not sealed or opened in place.
+ *
+ * The functions keep nothing between calls and take no memory from the heap. Calls in several threads at once are fine
+ * where none writes what another uses.
+ */
+#ifndef KINPHLOR_H
+#define KINPHLOR_H
+
+#include <stddef.h>
+#include <stdint.h>
+
+#ifdef __cplusplus
+extern "C" {
+#endif
+
+/* The longest plaintext, in bytes. */
+#define KINPHLOR_LIMIT 1048576
+
+/* The length of a tag: what sealing adds to a plaintext. */
+#define KINPHLOR_TAG_LEN 16
+
+/* The least scratch, in bytes. */
+#define KINPHLOR_SCRATCH_MIN 16
+
+/* The answers. */
+enum kinphlor_answer {
+    KINPHLOR_OK = 0,
+    KINPHLOR_KEY_LENGTH = 1,     /* the key has not 32, 48 or 64 bytes */
+    KINPHLOR_STRINGS = 2,        /* more than 126 header strings; never from these functions, which have two */
+    KINPHLOR_HEADER_LENGTH = 3,  /* ad_len + nonce_len is not header_len */
+    KINPHLOR_TOO_LONG = 4,       /* plaintext over 1,048,576 bytes, or sealed record over 1,048,592 */
+    KINPHLOR_TOO_SHORT = 5,      /* sealed record under 16 bytes */
+    KINPHLOR_OUTPUT_LENGTH = 6,  /* output too short */
+    KINPHLOR_SCRATCH_LENGTH = 7, /* scratch too short */
+    KINPHLOR_FORGED = 8,         /* not sealed under this key and header: damaged or forged */
+    KINPHLOR_STAGE = 9,          /* a piecewise call out of turn; never from these functions */
+    KINPHLOR_EMPTY_NONCE = 10    /* nonce_len is 0 */
+};
+
+uint64_t kinphlor_seal(const uint8_t *key, size_t key_len, const uint8_t *header, size_t header_len,
+                       uint32_t ad_len, uint32_t nonce_len, const uint8_t *input, size_t input_len,
+                       uint8_t *output, size_t output_len, uint8_t *scratch, size_t scratch_len);
+
+uint64_t kinphlor_open(const uint8_t *key, size_t key_len, const uint8_t *header, size_t header_len,
+                       uint32_t ad_len, uint32_t nonce_len, const uint8_t *input, size_t input_len,
+                       uint8_t *output, size_t output_len, uint8_t *scratch, size_t scratch_len);
+
+/* The answer in a result: one of enum kinphlor_answer. */
+static inline uint32_t kinphlor_number(uint64_t result) { return (uint32_t)(result >> 32); }
+
+/* The length in a result: how many bytes of the output were written. */
+static inline uint32_t kinphlor_length(uint64_t result) { return (uint32_t)(result & 0xffffffffu); }
+
+/* The scratch that a plaintext of n bytes needs. */
+static inline size_t kinphlor_scratch_len(size_t n) { return n < KINPHLOR_SCRATCH_MIN ? KINPHLOR_SCRATCH_MIN : n; }
+
+/* An answer in words. Never null. */
+static inline const char *kinphlor_text(uint32_t number) {
+    switch (number) {
+    case KINPHLOR_OK: return "success";
+    case KINPHLOR_KEY_LENGTH: return "the key has not 32, 48 or 64 bytes";
+    case KINPHLOR_STRINGS: return "more than 126 header strings";
+    case KINPHLOR_HEADER_LENGTH: return "the lengths of associated data and nonce do not sum to the header's";
+    case KINPHLOR_TOO_LONG: return "the plaintext is over 1,048,576 bytes, or the sealed record over 1,048,592";
+    case KINPHLOR_TOO_SHORT: return "the sealed record is under 16 bytes";
+    case KINPHLOR_OUTPUT_LENGTH: return "the output is too short";
+    case KINPHLOR_SCRATCH_LENGTH: return "the scratch is too short";
+    case KINPHLOR_FORGED: return "the record is damaged or forged";
+    case KINPHLOR_STAGE: return "the call is out of turn";
+    case KINPHLOR_EMPTY_NONCE: return "the nonce is empty";
+    default: return "unknown answer";
+    }
+}
+
+/* A byte to point at, for a buffer of length 0. It is never read or written. */
+static inline uint8_t *kinphlor_some_byte(void) {
+    static uint8_t byte;
+    return &byte;
+}
+
+/* kinphlor_seal for callers that have NULL for a buffer of length 0. NULL with another length is not allowed. */
+static inline uint64_t kinphlor_seal_nullable(const uint8_t *key, size_t key_len, const uint8_t *header,
+                                              size_t header_len, uint32_t ad_len, uint32_t nonce_len,
+                                              const uint8_t *input, size_t input_len, uint8_t *output,
+                                              size_t output_len, uint8_t *scratch, size_t scratch_len) {
+    uint8_t *const some = kinphlor_some_byte();
+    return kinphlor_seal(key ? key : some, key_len, header ? header : some, header_len, ad_len, nonce_len,
+                         input ? input : some, input_len, output ? output : some, output_len,
+                         scratch ? scratch : some, scratch_len);
+}
+
+/* kinphlor_open in the same way. */
+static inline uint64_t kinphlor_open_nullable(const uint8_t *key, size_t key_len, const uint8_t *header,
+                                              size_t header_len, uint32_t ad_len, uint32_t nonce_len,
+                                              const uint8_t *input, size_t input_len, uint8_t *output,
+                                              size_t output_len, uint8_t *scratch, size_t scratch_len) {
+    uint8_t *const some = kinphlor_some_byte();
+    return kinphlor_open(key ? key : some, key_len, header ? header : some, header_len, ad_len, nonce_len,
+                         input ? input : some, input_len, output ? output : some, output_len,
+                         scratch ? scratch : some, scratch_len);
+}
+
+#ifdef __cplusplus
+}
+#endif
+
+#endif
