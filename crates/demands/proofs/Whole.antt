@@ -1,0 +1,163 @@
+-- The second demand and the third demand's part on whole calls hold.
+-- Assumes nothing.
+use mathlib.Core.Path.{_≡_, refl, ap, ap₂, sym, subst, _∙_}
+use mathlib.Core.Bool.{Bool, true, false, not}
+use mathlib.Core.List.{List, [], _∷_, _++_}
+use Prim.Native.Nat.{ℕ, _+_, _-_, _≤_}
+use native.Mathlib.Decide.{ℕ-discrete}
+use native.Mathlib.Omega.{arith}
+use lib.Dec.{eqb}
+use lib.ListN.{length, take, replicate}
+use borrow.Author.Tests.{le-ltb, eq-eqb}
+use Rattle.octets.specs.Octets.{put}
+use Rattle.octets.proofs.Strings.{take-put}
+use Rattle.header.specs.Header.{total, strings}
+use Rattle.siv.specs.Answer.{Outcome, Row, row, first, pickNumber, verdict}
+use Rattle.siv.specs.Siv.{sealed, opened, genuine}
+use Rattle.siv.specs.Calls.{isKeyLength, limit, scratchNeed, headerRows, sealRows, openRows, sealNumber, sealCall, openNumber, openCall}
+use Rattle.siv.proofs.Laws.{first-pass, first-stop, openJudged, OpenAdmits, open-admits, length-opened}
+use Rattle.demands.specs.Whole.{Admits, success, Gives, Second, SealsTo, ThirdWhole, Third}
+use Rattle.demands.proofs.Siv.{length-sealed, opened-sealed, genuine-sealed, sealed-opened}
+
+-- ---- sealing
+
+module _ (key bytes lens p output scratch : List ℕ) (a : Admits key bytes lens) (limited : length p ≤ limit) (roomy : length p + 16 ≤ length output)
+    (scratchy : scratchNeed (length p) ≤ length scratch) where
+  seal-number : sealNumber key bytes lens p output scratch ≡ 0
+  unfolding sealNumber
+  seal-number =
+      simp (
+        a .keyed,
+        le-ltb 126 (length lens) (a .few),
+        eq-eqb (total lens) (length bytes) (a .listed),
+        le-ltb limit (length p) limited,
+        le-ltb (length output) (length p + 16) roomy,
+        le-ltb (length scratch) (scratchNeed (length p)) scratchy,
+      )
+
+  seal-gives : Gives (sealCall key bytes lens p output scratch) output (sealed key (strings bytes lens) p)
+  unfolding sealCall
+  seal-gives = (simp seal-number (ap success (sym (length-sealed key (strings bytes lens) p))), simp seal-number)
+
+-- ---- opening
+
+module _ (key bytes lens y output scratch : List ℕ) where
+  rows : List Row
+  rows = headerRows (length key) lens (length bytes) ++ openRows (length y) (length output) (length scratch)
+
+  forgery : List Row
+  forgery = row 8 (not (genuine key (strings bytes lens) y)) ∷ []
+
+  -- past the judgement the tag decides
+  by-tag : openJudged key bytes lens y output scratch ≡ 0 → openNumber key bytes lens y output scratch ≡ pickNumber (not (genuine key (strings bytes lens) y)) 8 0
+  unfolding openNumber rows forgery
+  by-tag j = first-pass rows forgery refl j
+
+  -- a number of 0 passed the judgement
+  judged-zero : openNumber key bytes lens y output scratch ≡ 0 → openJudged key bytes lens y output scratch ≡ 0
+  unfolding openNumber rows forgery
+  judged-zero e = go (ℕ-discrete (openJudged key bytes lens y output scratch) 0)
+    where
+      go : Dec (openJudged key bytes lens y output scratch ≡ 0) → openJudged key bytes lens y output scratch ≡ 0
+      go (yes j) = j
+      go (no j) = absurd (j (sym (first-stop rows forgery j) ∙ e))
+
+  genuine-zero : openNumber key bytes lens y output scratch ≡ 0 → genuine key (strings bytes lens) y ≡ true
+  genuine-zero e = go (genuine key (strings bytes lens) y) (sym (by-tag (judged-zero e)) ∙ e)
+    where
+      go : (b : Bool) → pickNumber (not b) 8 0 ≡ 0 → b ≡ true
+      go true p = refl
+      go false p = absurd (omega arith)
+
+  -- what opening gives where the tag agrees, and where it does not
+  open-gives : openJudged key bytes lens y output scratch ≡ 0 → genuine key (strings bytes lens) y ≡ true
+      → Gives (openCall key bytes lens y output scratch) output (opened key y)
+  unfolding openCall
+  open-gives j g =
+      let number : openNumber key bytes lens y output scratch ≡ 0 = by-tag j ∙ ap (λ (b : Bool). pickNumber (not b) 8 0) g in
+      (simp number (ap success (sym (length-opened key y))), simp number)
+
+  open-wipes : openJudged key bytes lens y output scratch ≡ 0 → genuine key (strings bytes lens) y ≡ false
+      → (openCall key bytes lens y output scratch .outcome ≡ verdict 8) × (openCall key bytes lens y output scratch .output ≡ put output 0 (replicate (length y - 16) 0))
+  unfolding openCall
+  open-wipes j g =
+      let number : openNumber key bytes lens y output scratch ≡ 8 = by-tag j ∙ ap (λ (b : Bool). pickNumber (not b) 8 0) g in
+      (simp number, simp number)
+
+  module _ (a : Admits key bytes lens) (roomy : length y - 16 ≤ length output) (scratchy : scratchNeed (length y - 16) ≤ length scratch) where
+    judged : 16 ≤ length y → length y ≤ limit + 16 → openJudged key bytes lens y output scratch ≡ 0
+    judged tagged limited =
+        simp (
+          a .keyed,
+          le-ltb 126 (length lens) (a .few),
+          eq-eqb (total lens) (length bytes) (a .listed),
+          le-ltb (length y) 16 tagged,
+          le-ltb (limit + 16) (length y) limited,
+          le-ltb (length output) (length y - 16) roomy,
+          le-ltb (length scratch) (scratchNeed (length y - 16)) scratchy,
+        )
+
+    -- what a genuine string opens to seals to it
+    genuine-seals : length y ≤ limit + 16 → genuine key (strings bytes lens) y ≡ true → SealsTo key bytes lens y (opened key y)
+    genuine-seals limited g = (omega (arith, length-opened key y), sealed-opened key (strings bytes lens) y g)
+
+    zero-seals : openNumber key bytes lens y output scratch ≡ 0 → SealsTo key bytes lens y (opened key y)
+    zero-seals e = genuine-seals (open-admits key bytes lens y output scratch (judged-zero e) .limited) (genuine-zero e)
+
+    -- two strings of one length that were written to the same place are the same
+    written-same : (P Q : List ℕ) → length P ≡ length Q → length P ≤ length output → put output 0 P ≡ put output 0 Q → P ≡ Q
+    written-same P Q l h e =
+        sym (take-put output 0 P (omega arith))
+        ∙ ap (take (0 + length P)) e
+        ∙ ap (λ (n : ℕ). take (0 + n) (put output 0 Q)) l
+        ∙ take-put output 0 Q (omega arith)
+
+    whole-accepts : (P : List ℕ) → Gives (openCall key bytes lens y output scratch) output P → SealsTo key bytes lens y P
+    unfolding openCall
+    whole-accepts P (o, q) =
+        let zero : openNumber key bytes lens y output scratch ≡ 0 = ap (λ (r : Outcome). r .number) o in
+        let gives : Gives (openCall key bytes lens y output scratch) output (opened key y) = open-gives (judged-zero zero) (genuine-zero zero) in
+        let long : length P ≡ length (opened key y) = ap (λ (r : Outcome). r .count) (sym o ∙ gives .0) in
+        let same : P ≡ opened key y = written-same P (opened key y) long (omega (arith, length-opened key y)) (sym q ∙ gives .1) in
+        subst (SealsTo key bytes lens y) (sym same) (zero-seals zero)
+
+    whole-accepted : (P : List ℕ) → SealsTo key bytes lens y P → Gives (openCall key bytes lens y output scratch) output P
+    whole-accepted P (l, e) =
+        let long : length y ≡ length P + 16 = ap length (sym e) ∙ length-sealed key (strings bytes lens) P in
+        let text : opened key y ≡ P = ap (opened key) (sym e) ∙ opened-sealed key (strings bytes lens) P in
+        let true-tag : genuine key (strings bytes lens) y ≡ true = ap (genuine key (strings bytes lens)) (sym e) ∙ genuine-sealed key (strings bytes lens) P in
+        subst (Gives (openCall key bytes lens y output scratch) output) text (open-gives (judged (omega arith) (omega arith)) true-tag)
+
+    whole-refuses : ((P : List ℕ) → SealsTo key bytes lens y P → ⊥) → openCall key bytes lens y output scratch .outcome .number ≡ 0 → ⊥
+    unfolding openCall
+    whole-refuses none e = none (opened key y) (zero-seals e)
+
+    whole-wipes : ((P : List ℕ) → SealsTo key bytes lens y P → ⊥) → 16 ≤ length y → length y ≤ limit + 16
+        → (openCall key bytes lens y output scratch .outcome ≡ verdict 8) × (openCall key bytes lens y output scratch .output ≡ put output 0 (replicate (length y - 16) 0))
+    whole-wipes none tagged limited = open-wipes (judged tagged limited) (go (genuine key (strings bytes lens) y) refl)
+      where
+        go : (b : Bool) → genuine key (strings bytes lens) y ≡ b → genuine key (strings bytes lens) y ≡ false
+        go true g = absurd (none (opened key y) (genuine-seals limited g))
+        go false g = g
+
+-- ---- the demands
+
+pub third : Third
+third key bytes lens y output scratch a roomy scratchy =
+    record {
+      accepts = whole-accepts key bytes lens y output scratch a roomy scratchy;
+      accepted = whole-accepted key bytes lens y output scratch a roomy scratchy;
+      unique = λ P Q p q. sym (opened-sealed key (strings bytes lens) P) ∙ ap (opened key) (p .1 ∙ sym (q .1)) ∙ opened-sealed key (strings bytes lens) Q;
+      refuses = whole-refuses key bytes lens y output scratch a roomy scratchy;
+      wipes = whole-wipes key bytes lens y output scratch a roomy scratchy;
+    }
+
+pub second : Second
+second =
+    record {
+      seals = seal-gives;
+      opens = λ key bytes lens p output scratch a l r s.
+          let long : length (sealed key (strings bytes lens) p) - 16 ≡ length p = omega (arith, length-sealed key (strings bytes lens) p) in
+          third key bytes lens (sealed key (strings bytes lens) p) output scratch a (subst (λ (n : ℕ). n ≤ length output) (sym long) r)
+          (subst (λ (n : ℕ). scratchNeed n ≤ length scratch) (sym long) s) .accepted p (l, refl);
+    }
