@@ -1,3 +1,4 @@
 pub mod Cases
+pub mod First
 pub mod Siv
 pub mod Whole

@@ -86,7 +86,7 @@ first-stop (r ∷ a) b e = go (r .due) (first-stop a b) e
 -- ---- which case an answer is
 
 -- no refusal has the number 0
-refusal-number : (r : Refusal) → numberOf r ≡ 0 → ⊥
+pub refusal-number : (r : Refusal) → numberOf r ≡ 0 → ⊥
 refusal-number KeyLength e = omega arith
 refusal-number HeaderCount e = omega arith
 refusal-number HeaderLengths e = omega arith

@@ -1,0 +1,77 @@
+-- The first demand, for whole calls: every call gives the complete result, or the one refusal that is first due, with the buffers as document 01's table says.
+-- Assumes nothing.
+use mathlib.Core.Path.{_≡_}
+use mathlib.Core.Bool.{Bool, true, false, not}
+use mathlib.Core.List.{List, [], _∷_, _++_}
+use Prim.Native.Nat.{ℕ, _+_, _-_}
+use lib.Dec.{eqb}
+use lib.ListN.{length, replicate}
+use Rattle.octets.specs.Octets.{put}
+use Rattle.header.specs.Header.{strings}
+use Rattle.siv.specs.declared.Answer.{Answer}
+use Rattle.siv.specs.Answer.{Row, row, outcomeOf}
+use Rattle.siv.specs.Siv.{sealed, opened, genuine}
+use Rattle.siv.specs.Calls.{Result, scratchNeed, headerRows, sealRows, openRows, sealCall, openCall}
+
+-- document 01's order of refusals
+abbrev pub order : List ℕ
+order = 9 ∷ 1 ∷ 10 ∷ 2 ∷ 3 ∷ 5 ∷ 4 ∷ 6 ∷ 7 ∷ 8 ∷ []
+
+abbrev pub pickTest : Bool → Bool → Bool → Bool
+pickTest true a b = a
+pickTest false a b = b
+
+-- whether rows keep an order
+abbrev pub keeps : List ℕ → List Row → Bool
+keeps [] [] = true
+keeps [] (r ∷ rs) = false
+keeps (n ∷ ns) [] = true
+keeps (n ∷ ns) (r ∷ rs) = pickTest (eqb (r .number) n) (keeps ns rs) (keeps ns (r ∷ rs))
+
+-- n is the number of the first row that is due, and no row before it is due; or it is 0, and none is due
+pub data FirstDue : List Row → ℕ → Type 0 where
+  none : FirstDue [] 0
+  here : {r : Row} {rs : List Row} → r .due ≡ true → FirstDue (r ∷ rs) (r .number)
+  later : {r : Row} {rs : List Row} {n : ℕ} → r .due ≡ false → FirstDue rs n → FirstDue (r ∷ rs) n
+
+-- a call gave a number and a length, and left these buffers
+abbrev pub Leaves : Result → ℕ → ℕ → List ℕ → List ℕ → Type 0
+Leaves result number count output scratch = (result .outcome ≡ record { number = number; count = count }) × (result .output ≡ output) × (result .scratch ≡ scratch)
+
+module _ (key bytes lens input output scratch : List ℕ) where
+  -- the rows of sealing and of opening
+  abbrev pub sealTable : List Row
+  sealTable = headerRows (length key) lens (length bytes) ++ sealRows (length input) (length output) (length scratch)
+
+  abbrev pub openTable : List Row
+  openTable =
+      headerRows (length key) lens (length bytes) ++ openRows (length input) (length output) (length scratch)
+      ++ (row 8 (not (genuine key (strings bytes lens) input)) ∷ [])
+
+  -- the scratch that n bytes need, zero
+  abbrev pub cleared : ℕ → List ℕ
+  cleared n = put scratch 0 (replicate (scratchNeed n) 0)
+
+  pub record FirstSeal : Type 0 where
+    pub ordered : keeps order sealTable ≡ true
+    pub first : FirstDue sealTable (sealCall key bytes lens input output scratch .outcome .number)
+    pub done : sealCall key bytes lens input output scratch .outcome .number ≡ 0
+        → Leaves (sealCall key bytes lens input output scratch) 0 (length input + 16) (put output 0 (sealed key (strings bytes lens) input)) (cleared (length input))
+    pub refused : (n : ℕ) → sealCall key bytes lens input output scratch .outcome .number ≡ n → (n ≡ 0 → ⊥)
+        → Leaves (sealCall key bytes lens input output scratch) n 0 output scratch
+
+  pub record FirstOpen : Type 0 where
+    pub ordered : keeps order openTable ≡ true
+    pub first : FirstDue openTable (openCall key bytes lens input output scratch .outcome .number)
+    pub done : openCall key bytes lens input output scratch .outcome .number ≡ 0
+        → Leaves (openCall key bytes lens input output scratch) 0 (length input - 16) (put output 0 (opened key input)) (cleared (length input - 16))
+    pub forged : openCall key bytes lens input output scratch .outcome .number ≡ 8
+        → Leaves (openCall key bytes lens input output scratch) 8 0 (put output 0 (replicate (length input - 16) 0)) (cleared (length input - 16))
+    pub refused : (n : ℕ) → openCall key bytes lens input output scratch .outcome .number ≡ n → (n ≡ 0 → ⊥) → (n ≡ 8 → ⊥)
+        → Leaves (openCall key bytes lens input output scratch) n 0 output scratch
+
+-- The first demand for whole calls; number and length tell an answer.
+pub record First : Type 0 where
+  pub sealing : (key bytes lens input output scratch : List ℕ) → FirstSeal key bytes lens input output scratch
+  pub opening : (key bytes lens input output scratch : List ℕ) → FirstOpen key bytes lens input output scratch
+  pub told : (a b : Answer) → outcomeOf a ≡ outcomeOf b → a ≡ b
