@@ -37,3 +37,9 @@ pub fn rows(bytes: &[u8]) {
     }
     row(rest);
 }
+
+// Writes a number in decimal and a line end.
+pub fn number(n: usize) {
+    io::print_decimal(STDOUT_FILENO, n as u64);
+    text(b"\n");
+}

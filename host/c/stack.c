@@ -1,0 +1,70 @@
+/* The stack that a call takes: it runs on a painted stack of its own, and the paint that is gone is counted. */
+#include <kinphlor.h>
+#include <stdio.h>
+#include <string.h>
+#include <ucontext.h>
+
+enum { ROOM = 1 << 18, LIMIT = 8192, PAINT = 0xa5, SIZES = 3 };
+
+static unsigned char room[ROOM];
+static ucontext_t here, there;
+static uint8_t key[64], header[28], record[1 << 16], sealed[(1 << 16) + 16], scratch[1 << 16];
+static size_t key_len, record_len;
+static int calls, opening;
+static uint64_t answer;
+
+static void call(void)
+{
+    if (!calls) {
+        return;
+    }
+    if (opening) {
+        answer = kinphlor_open(key, key_len, header, 28, 16, 12, sealed, record_len + 16, record, record_len, scratch, sizeof scratch);
+    } else {
+        answer = kinphlor_seal(key, key_len, header, 28, 16, 12, record, record_len, sealed, record_len + 16, scratch, sizeof scratch);
+    }
+}
+
+/* the bytes of the room that a run takes */
+static size_t taken(void)
+{
+    size_t i = 0;
+
+    memset(room, PAINT, ROOM);
+    getcontext(&there);
+    there.uc_stack.ss_sp = room;
+    there.uc_stack.ss_size = ROOM;
+    there.uc_link = &here;
+    makecontext(&there, call, 0);
+    swapcontext(&here, &there);
+    while (i < ROOM && room[i] == PAINT) {
+        i++;
+    }
+    return ROOM - i;
+}
+
+int main(void)
+{
+    static const size_t lengths[SIZES] = {0, 40, 1 << 16};
+    size_t idle, most = 0;
+
+    calls = 0;
+    idle = taken();
+    calls = 1;
+    for (key_len = 32; key_len <= 64; key_len += 16) {
+        for (int i = 0; i < SIZES; i++) {
+            record_len = lengths[i];
+            for (opening = 0; opening < 2; opening++) {
+                size_t n = taken() - idle;
+
+                if (kinphlor_number(answer) != KINPHLOR_OK) {
+                    printf("stack: a call was refused with %u\n", (unsigned)kinphlor_number(answer));
+                    return 1;
+                }
+                most = n > most ? n : most;
+            }
+        }
+    }
+    printf("stack: a call takes at most %zu bytes\n", most);
+    return most == 0 || most >= LIMIT;
+}
