@@ -128,7 +128,7 @@ pub record SealAdmits (key bytes lens input output scratch : List ℕ) : Type 0 
   pub roomy : length input + 16 ≤ length output
   pub scratchy : scratchNeed (length input) ≤ length scratch
 
-not-due : (b : Bool) (n rest : ℕ) → pickNumber b (suc n) rest ≡ 0 → (b ≡ false) × (rest ≡ 0)
+pub not-due : (b : Bool) (n rest : ℕ) → pickNumber b (suc n) rest ≡ 0 → (b ≡ false) × (rest ≡ 0)
 not-due true n rest e = absurd (omega arith)
 not-due false n rest e = (refl, e)
 

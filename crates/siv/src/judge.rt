@@ -18,7 +18,7 @@ pub(crate) fn scratch_need(n: usize) -> usize
 }
 
 // The refusals of key and header list.
-pub(crate) fn judge_header(key_len: usize, lens: &[u32], header_len: usize) -> Answer
+pub fn judge_header(key_len: usize, lens: &[u32], header_len: usize) -> Answer
     ensures { λ r. ⌜ outcomeOf r ≡ verdict (first (headerRows «key_len» (now (lens .entry)) «header_len»)) ⌝ }
 {
     if !crate::is_key_len(key_len) {

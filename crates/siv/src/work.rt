@@ -17,7 +17,7 @@ use aes::RoundKeys;
 use octets::Block;
 
 // The round keys of one half of a key.
-fn half_keys(engine: &Engine, half: &[u8]) -> RoundKeys
+pub fn half_keys(engine: &Engine, half: &[u8]) -> RoundKeys
     requires { ⌜ Ready (now engine) × (isWidth (length (now half)) ≡ true) ⌝ }
     ensures { λ r. ⌜ r ≡ roundKeys (now (half .entry)) ⌝ }
 {

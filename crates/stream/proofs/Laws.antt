@@ -1,0 +1,351 @@
+-- Laws of joined strings, of what refusal 9 judges and of the calls' results.
+-- Assumes nothing.
+use mathlib.Core.Path.{_≡_, refl, ap, ap₂, sym, subst, _∙_}
+use mathlib.Core.Bool.{Bool, true, false, not}
+use mathlib.Core.List.{List, [], _∷_, _++_, append-assoc}
+use Prim.Native.Nat.{ℕ, suc, _+_, _-_, _*_, _/_, _%_, _≤_, _<_}
+use native.Mathlib.Numerals.{add-one}
+use native.Mathlib.Decide.{decLt}
+use native.Mathlib.Omega.{arith}
+use lib.Dec.{eqb, ltb}
+use lib.ListN.{length, getD, take, drop, replicate, length-append, length-take, length-drop, drop-of-length-le}
+use lib.Seq.{take-all, take-append-le, take-append-add, drop-append-le, drop-append-add, drop-cons, length-take-le, take-at, drop-at}
+use borrow.Author.Tests.{eqb-true, eq-eqb, ne-eqb, ltb-false, lt-ltb, le-ltb, not-true, not-false}
+use types.Run.{OneOf}
+use denote.Enum.Declared.{tagOf}
+use Rattle.octets.specs.Octets.{both, put, part, same}
+use Rattle.octets.proofs.Strings.{put-put, put-all, length-part, part-to, part-rest}
+use Rattle.octets.proofs.Tests.{both-left, both-right}
+use Rattle.aes.specs.Aes.{isWidth, either}
+use Rattle.aes.specs.Cipher.{cipher}
+use Rattle.aes.specs.KeyExpansion.{roundKeys}
+use Rattle.cmac.specs.declared.Subkeys.{Subkeys}
+use Rattle.cmac.specs.Cmac.{zeros, chain, subkeys, zeroCipher}
+use Rattle.header.specs.Header.{total}
+use Rattle.s2v.specs.S2v.{tailLength, headerResult}
+use Rattle.s2v.proofs.Laws.{Tail, tail, tail-short, tail-long}
+use Rattle.ctr.proofs.Laws.{length-xorStream}
+use Rattle.siv.specs.declared.Answer.{Answer}
+use Rattle.siv.specs.declared.Answer.the-variants.{Done, Refused}
+use Rattle.siv.specs.declared.Refusal.the-variants.{Forged}
+use Rattle.siv.specs.Answer.{Outcome, Row, row, pickNumber, first, outcomeOf, verdict}
+use Rattle.siv.specs.Siv.{macKey, ctrKey}
+use Rattle.siv.specs.Calls.{isKeyLength, limit, headerRows}
+use Rattle.siv.proofs.Answer.{the-type}
+use Rattle.siv.proofs.Laws.{not-due, first-not, first-pass, first-stop, told-done}
+use Rattle.stream.specs.declared.Stream.{Stream}
+use Rattle.stream.specs.declared.Step.{Step}
+use Rattle.stream.specs.State.{allZero, writtenLimit, fits, passedBlocks, tailOf, added, ended, start, tagOfState}
+use Rattle.stream.specs.Steps.{Result, Did, pickResult, success, refusal, settle, openerRows, streamedAt, finishStep, addRows, turnRows, writeRows, feedRows, finishRows}
+
+-- ---- parts of two joined strings
+
+module _ (a b : List ℕ) (at n : ℕ) where
+  -- a part that lies in the second string
+  pub part-right : length a ≤ at → part (a ++ b) at n ≡ part b (at - length a) n
+  part-right h =
+      let place : at ≡ length a + (at - length a) = omega arith in
+      ap (take n) (ap (λ (k : ℕ). drop k (a ++ b)) place ∙ drop-append-add a b (at - length a))
+
+  -- a part that lies in the first
+  pub part-left : at + n ≤ length a → part (a ++ b) at n ≡ part a at n
+  part-left h = ap (take n) (drop-append-le at a b (omega arith)) ∙ take-append-le n (drop at a) b (simp length-drop (omega arith))
+
+  -- a part that lies in both
+  pub part-seam : at ≤ length a → length a - at ≤ n → part (a ++ b) at n ≡ drop at a ++ take (n - (length a - at)) b
+  part-seam h k =
+      let count : n ≡ length (drop at a) + (n - (length a - at)) = simp length-drop (omega arith) in
+      ap (take n) (drop-append-le at a b h) ∙ ap (λ (m : ℕ). take m (drop at a ++ b)) count ∙ take-append-add (drop at a) b (n - (length a - at))
+
+-- ---- what refusal 9 judges
+
+pub zero-more : (s : List ℕ) (i : ℕ) → i < length s → getD s i 0 ≡ 0 → allZero (drop i s) ≡ allZero (drop (i + 1) s)
+unfolding allZero
+zero-more s i h e =
+    ap allZero (drop-cons s i 0 h)
+    ∙ ap (λ (t : Bool). both t (allZero (drop (suc i) s))) (eq-eqb (getD s i 0) 0 e)
+    ∙ ap (λ (k : ℕ). allZero (drop k s)) (sym (add-one i))
+
+pub zero-stop : (s : List ℕ) (i : ℕ) → i < length s → (getD s i 0 ≡ 0 → ⊥) → allZero (drop i s) ≡ false
+unfolding allZero
+zero-stop s i h e = ap allZero (drop-cons s i 0 h) ∙ ap (λ (t : Bool). both t (allZero (drop (suc i) s))) (ne-eqb (getD s i 0) 0 e)
+
+pub zero-end : (s : List ℕ) (i : ℕ) → length s ≤ i → allZero (drop i s) ≡ true
+unfolding allZero
+zero-end s i h = ap allZero (drop-of-length-le s h)
+
+-- a sum past a limit, told without the sum
+pub sum-passes : (most total n : ℕ) → total ≤ most → ltb (most - total) n ≡ ltb most (total + n)
+sum-passes most total n h = go (decLt (most - total) n)
+  where
+    go : Dec (most - total < n) → ltb (most - total) n ≡ ltb most (total + n)
+    go (yes k) = lt-ltb (most - total) n k ∙ sym (lt-ltb most (total + n) (omega arith))
+    go (no k) = le-ltb (most - total) n (omega arith) ∙ sym (le-ltb most (total + n) (omega arith))
+
+width-most : (n : ℕ) → isWidth n ≡ true → n ≤ 32
+unfolding isWidth
+width-most n e = go (eqb n 16) (eqb n 24) (eqb-true n 16) (eqb-true n 24) (eqb-true n 32) e
+  where
+    go : (a b : Bool) → (a ≡ true → n ≡ 16) → (b ≡ true → n ≡ 24) → (eqb n 32 ≡ true → n ≡ 32) → either a (either b (eqb n 32)) ≡ true → n ≤ 32
+    go true b f g h t = let k : n ≡ 16 = f refl in omega arith
+    go false true f g h t = let k : n ≡ 24 = g refl in omega arith
+    go false false f g h t = let k : n ≡ 32 = h t in omega arith
+
+-- what a state that fits may be relied on for
+pub record Fit (wanted : ℕ) (s : Stream) : Type 0 where
+  pub width : s .width ≤ 32
+  pub total : s .total ≤ limit
+  pub written : s .written ≤ writtenLimit wanted (s .total)
+
+pub fit : (wanted : ℕ) (s : Stream) → fits wanted s ≡ true → Fit wanted s
+unfolding fits
+fit wanted s e =
+    let unused = allZero (drop (tailLength (s .total)) (s .tail)) in
+    let inWritten = not (ltb (writtenLimit wanted (s .total)) (s .written)) in
+    let inTotal = not (ltb limit (s .total)) in
+    let a = both-right (eqb (s .stage) wanted) (both (isWidth (s .width)) (both inTotal (both inWritten unused))) e in
+    let b = both-right (isWidth (s .width)) (both inTotal (both inWritten unused)) a in
+    let d = both-right inTotal (both inWritten unused) b in
+    record {
+      width = width-most (s .width) (both-left (isWidth (s .width)) (both inTotal (both inWritten unused)) a);
+      total = ltb-false limit (s .total) (not-true (ltb limit (s .total)) (both-left inTotal (both inWritten unused) b));
+      written = ltb-false (writtenLimit wanted (s .total)) (s .written) (not-true (ltb (writtenLimit wanted (s .total)) (s .written)) (both-left inWritten unused d));
+    }
+
+-- ---- the calls' results
+
+pub refused : (a : Answer) (n : ℕ) (done : Result) (s : Stream) (output : List ℕ) → (outcomeOf a .number ≡ 0 → ⊥) → outcomeOf a ≡ verdict n
+    → Did (settle n done s output) (record { answer = a; state = s }) output
+refused a n done s output k e =
+    let off : eqb n 0 ≡ false = ne-eqb n 0 (λ z. k (ap (λ (o : Outcome). o .number) e ∙ z)) in
+    subst (λ (t : Bool). Did (pickResult t done (refusal n s output)) (record { answer = a; state = s }) output) (sym off)
+    (record { outcome = e; state = refl; output = refl })
+
+pub done : (n : ℕ) (result : Result) (s : Stream) (output : List ℕ) {step : Step} {last : List ℕ} → n ≡ 0 → Did result step last → Did (settle n result s output) step last
+done n result s output {step} {last} e d =
+    subst (λ (t : Bool). Did (pickResult t result (refusal n s output)) step last) (sym (eq-eqb n 0 e)) d
+
+-- ---- the tail
+
+-- blocks before the tail, and the tail, are the whole
+pub record Cut (n : ℕ) : Type 0 where
+  pub blocks : 16 * passedBlocks n + tailLength n ≡ n
+  pub short : tailLength n < 32
+
+pub cut : (n : ℕ) → Cut n
+unfolding passedBlocks
+cut n = let t : Tail n = tail n in record { blocks = omega arith; short = t .short }
+
+-- a longer string has as many blocks before its tail, or more
+pub passed-more : (n m : ℕ) → passedBlocks n ≤ passedBlocks (n + m)
+unfolding passedBlocks
+passed-more n m = go (decLt n 16) (decLt (n + m) 16)
+  where
+    go : Dec (n < 16) → Dec (n + m < 16) → (n - tailLength n) / 16 ≤ (n + m - tailLength (n + m)) / 16
+    go (yes h) k = let e : tailLength n ≡ n = tail-short n h in omega arith
+    go (no h) k =
+        let e : tailLength n ≡ 16 + n % 16 = tail-long n (omega arith) in
+        let f : tailLength (n + m) ≡ 16 + (n + m) % 16 = tail-long (n + m) (omega arith) in
+        omega arith
+
+-- ---- what the refusals leave
+
+module _ (s : Stream) where
+  stated : (wanted rest : ℕ) → pickNumber (not (fits wanted s)) 9 rest ≡ 0 → Fit wanted s × (rest ≡ 0)
+  stated wanted rest e =
+      let a = not-due (not (fits wanted s)) 8 rest e in
+      (fit wanted s (not-false (fits wanted s) (a .0)), a .1)
+
+  pub add-admits : (n : ℕ) → first (addRows s n) ≡ 0 → Fit 1 s × (s .total + n ≤ limit)
+  add-admits n e =
+      let a = stated 1 _ e in
+      let b = not-due (ltb limit (s .total + n)) 3 0 (a .1) in
+      (a .0, ltb-false limit (s .total + n) (b .0))
+
+  pub turn-admits : (output : ℕ) → first (turnRows s output) ≡ 0 → Fit 1 s × (16 ≤ output)
+  turn-admits output e =
+      let a = stated 1 _ e in
+      let b = not-due (ltb output 16) 5 0 (a .1) in
+      (a .0, ltb-false output 16 (b .0))
+
+  pub write-admits : (n output : ℕ) → first (writeRows s n output) ≡ 0 → Fit 2 s × (s .written + n ≤ s .total) × (n ≤ output)
+  write-admits n output e =
+      let a = stated 2 _ e in
+      let b = not-due (ltb (s .total) (s .written + n)) 3 _ (a .1) in
+      let d = not-due (ltb output n) 5 0 (b .1) in
+      (a .0, ltb-false (s .total) (s .written + n) (b .0), ltb-false output n (d .0))
+
+  pub feed-admits : (n output : ℕ) → first (feedRows s n output) ≡ 0 → Fit 3 s × (s .total + n ≤ limit) × (s .total + n ≤ output)
+  feed-admits n output e =
+      let a = stated 3 _ e in
+      let b = not-due (ltb limit (s .total + n)) 3 _ (a .1) in
+      let d = not-due (ltb output (s .total + n)) 5 0 (b .1) in
+      (a .0, ltb-false limit (s .total + n) (b .0), ltb-false output (s .total + n) (d .0))
+
+  pub finish-admits : (output : ℕ) → first (finishRows s output) ≡ 0 → Fit 3 s × (s .total ≤ output)
+  finish-admits output e =
+      let a = stated 3 _ e in
+      let b = not-due (ltb output (s .total)) 5 0 (a .1) in
+      (a .0, ltb-false output (s .total) (b .0))
+
+-- ---- what is done once a call is admitted
+
+-- what a piece leaves of a tail and puts into the chain, in numbers
+pub record Piece (total n : ℕ) : Type 0 where
+  pub more : passedBlocks total ≤ passedBlocks (total + n)
+  pub count : 16 * (passedBlocks (total + n) - passedBlocks total) + tailLength (total + n) ≡ tailLength total + n
+  pub used : tailLength total ≤ 31
+  pub left : tailLength (total + n) < 32
+
+pub piece : (total n : ℕ) → Piece total n
+piece total n =
+    let a : Cut total = cut total in
+    let b : Cut (total + n) = cut (total + n) in
+    let h : passedBlocks total ≤ passedBlocks (total + n) = passed-more total n in
+    record { more = h; count = omega arith; used = omega arith; left = b .short }
+
+-- a state with another chain, total and tail
+abbrev pub stateWith : Stream → List ℕ → ℕ → List ℕ → Stream
+stateWith s c total rest =
+    record {
+      stage = s .stage;
+      width = s .width;
+      «mac_keys» = s .«mac_keys»;
+      «ctr_keys» = s .«ctr_keys»;
+      l = s .l;
+      d = s .d;
+      chain = c;
+      v = s .v;
+      total = total;
+      written = s .written;
+      tail = rest;
+    }
+
+-- the state that the code puts together is the one with the piece
+pub absorbed : (s : Stream) (text : List ℕ) {total n used : ℕ} {c rest : List ℕ} → total ≡ s .total + length text → n ≡ passedBlocks total - passedBlocks (s .total)
+    → used ≡ tailLength (s .total) → c ≡ chain (cipher (s .width) (s .«mac_keys»)) (s .chain) (take used (s .tail) ++ text) n
+    → rest ≡ tailOf (drop (16 * n) (take used (s .tail) ++ text)) → stateWith s c total rest ≡ added s text
+unfolding added
+absorbed s text {total} {n} {used} {c} {rest} t m u p q =
+    let count : n ≡ passedBlocks (s .total + length text) - passedBlocks (s .total) = m ∙ ap (λ (k : ℕ). passedBlocks k - passedBlocks (s .total)) t in
+    simp (
+      t,
+      p ∙ ap₂ (λ (h k : ℕ). chain (cipher (s .width) (s .«mac_keys»)) (s .chain) (take h (s .tail) ++ text) k) u count,
+      q ∙ ap₂ (λ (h k : ℕ). tailOf (drop (16 * k) (take h (s .tail) ++ text))) u count,
+    )
+
+-- a state to begin with
+abbrev pub beginning : ℕ → List ℕ → List ℕ → List ℕ → List ℕ → ℕ → List ℕ → Stream
+beginning width macs ctrs l d stage v =
+    record {
+      stage = stage;
+      width = width;
+      «mac_keys» = macs;
+      «ctr_keys» = ctrs;
+      l = l;
+      d = d;
+      chain = zeros;
+      v = v;
+      total = 0;
+      written = 0;
+      tail = replicate 31 0;
+    }
+
+-- the state that the code begins with
+pub started : (key : List ℕ) (ss : List (List ℕ)) (stage : ℕ) (v : List ℕ) {macs ctrs l d : List ℕ} {k : Subkeys} → macs ≡ roundKeys (macKey key) → ctrs ≡ roundKeys (ctrKey key)
+    → l ≡ zeroCipher (cipher (length key / 2) macs) → k ≡ subkeys l → d ≡ headerResult (cipher (length key / 2) macs) k ss → beginning (length key / 2) macs ctrs l d stage v ≡ start key ss stage v
+unfolding start
+started key ss stage v {macs} {ctrs} {l} {d} {k} m c e f g =
+    let E : List ℕ → List ℕ → List ℕ = cipher (length key / 2) in
+    let l′ : l ≡ zeroCipher (E (roundKeys (macKey key))) = e ∙ ap (λ (w : List ℕ). zeroCipher (E w)) m in
+    simp (m, c, l′, g ∙ ap₂ (λ (w : List ℕ) (j : Subkeys). headerResult (E w) j ss) m (f ∙ ap subkeys l′))
+
+-- ---- which case a judgement is
+
+-- past the refusals none was due
+pub passed : (a : Answer) (n : ℕ) → OneOf (0 ∷ []) (tagOf the-type a) → outcomeOf a ≡ verdict n → n ≡ 0
+passed a n k e = sym (ap (λ (o : Outcome). o .number) e) ∙ told-done a k
+
+-- ---- feed and finish
+
+pub length-streamedAt : (s : Stream) (place : ℕ) (text : List ℕ) → length (streamedAt s place text) ≡ length text
+unfolding streamedAt
+length-streamedAt s place text = length-xorStream (cipher (s .width) (s .«ctr_keys»)) (s .v) place text
+
+-- what was written to a slice is read from there
+pub read-back : (l : List ℕ) (at n : ℕ) (p : List ℕ) {last : List ℕ} → last ≡ put l at p → length p ≡ n → at + n ≤ length l → take (at + n - at) (drop at last) ≡ p
+unfolding put
+read-back l at n p e long room =
+    let front : length (take at l) ≡ at = length-take-le at l (omega arith) in
+    ap (λ (x : List ℕ). take (at + n - at) (drop at x)) (e ∙ append-assoc (take at l) p (drop (at + length p) l))
+    ∙ part-to (take at l ++ (p ++ drop (at + length p) l)) at n
+    ∙ ap (take n) (drop-at (take at l) (p ++ drop (at + length p) l) at front)
+    ∙ take-at p (drop (at + length p) l) n long
+
+module _ (s : Stream) (output : List ℕ) where
+  judged : List Row
+  judged = finishRows s (length output)
+
+  forgery : List Row
+  forgery = row 8 (not (same (tagOfState s) (s .v))) ∷ []
+
+  number : ℕ
+  number = first (finishRows s (length output) ++ (row 8 (not (same (tagOfState s) (s .v))) ∷ []))
+
+  pub finish-refused : (a : Answer) → (outcomeOf a .number ≡ 0 → ⊥) → outcomeOf a ≡ verdict (first (finishRows s (length output)))
+      → Did (finishStep s output) (record { answer = a; state = s }) output
+  unfolding finishStep judged forgery number
+  finish-refused a k e =
+      let due : first judged ≡ 0 → ⊥ = λ z. k (ap (λ (o : Outcome). o .number) e ∙ z) in
+      let stops : number ≡ first judged = first-stop judged forgery due in
+      let off8 : eqb number 8 ≡ false = ne-eqb number 8 (λ z. first-not 8 judged refl (λ z. omega arith) (sym stops ∙ z)) in
+      let d = refused a number (success (s .total) ended output) s output k (e ∙ ap verdict (sym stops)) in
+      subst (λ (t : Bool). Did (pickResult t (refusal 8 ended (put output 0 (replicate (s .total) 0))) (settle number (success (s .total) ended output) s output)) (record { answer = a; state = s }) output) (sym off8) d
+
+  module _ {state : Stream} (none : first (finishRows s (length output)) ≡ 0) (ends : state ≡ ended) where
+    by-tag : number ≡ pickNumber (not (same (tagOfState s) (s .v))) 8 0
+    unfolding judged forgery number
+    by-tag = first-pass judged forgery refl none
+
+    pub finish-done : same (tagOfState s) (s .v) ≡ true → Did (finishStep s output) (record { answer = Done (s .total); state = state }) output
+    unfolding finishStep number
+    finish-done g =
+        let zero : number ≡ 0 = by-tag ∙ ap (λ (t : Bool). pickNumber (not t) 8 0) g in
+        record { outcome = simp zero; state = simp zero ends; output = simp zero }
+
+    pub finish-forged : (last : List ℕ) → same (tagOfState s) (s .v) ≡ false → last ≡ put output 0 (replicate (s .total) 0)
+        → Did (finishStep s output) (record { answer = Refused Forged; state = state }) last
+    unfolding finishStep number
+    finish-forged last g p =
+        let eight : number ≡ 8 = by-tag ∙ ap (λ (t : Bool). pickNumber (not t) 8 0) g in
+        record { outcome = simp eight; state = simp eight ends; output = simp eight p }
+
+-- ---- begin
+
+pub begin-refused : (a : Answer) (n : ℕ) (result : Result) {state : Stream} → (outcomeOf a .number ≡ 0 → ⊥) → outcomeOf a ≡ verdict n → state ≡ ended
+    → Did (settle n result ended []) (record { answer = a; state = state }) []
+begin-refused a n result {state} k e ends =
+    subst (λ (s : Stream). Did (settle n result ended []) (record { answer = a; state = s }) []) (sym ends) (refused a n result ended [] k e)
+
+module _ (keyLength : ℕ) (lens : List ℕ) (headerLength : ℕ) where
+  pub header-admits : first (headerRows keyLength lens headerLength) ≡ 0 → (isKeyLength keyLength ≡ true) × (total lens ≤ headerLength)
+  header-admits e =
+      let a = not-due (not (isKeyLength keyLength)) 0 _ e in
+      let b = not-due (ltb 126 (length lens)) 1 _ (a .1) in
+      let d = not-due (not (eqb (total lens) headerLength)) 2 0 (b .1) in
+      let all : total lens ≡ headerLength = eqb-true (total lens) headerLength (not-false (eqb (total lens) headerLength) (d .0)) in
+      (not-false (isKeyLength keyLength) (a .0), omega arith)
+
+  pub opener-admits : (tagLength : ℕ) → first (openerRows keyLength lens headerLength tagLength) ≡ 0
+      → ((isKeyLength keyLength ≡ true) × (total lens ≤ headerLength)) × (tagLength ≡ 16)
+  opener-admits tagLength e =
+      let a = not-due (not (isKeyLength keyLength)) 0 _ e in
+      let b = not-due (ltb 126 (length lens)) 1 _ (a .1) in
+      let d = not-due (not (eqb (total lens) headerLength)) 2 _ (b .1) in
+      let f = not-due (not (eqb tagLength 16)) 4 0 (d .1) in
+      let all : total lens ≡ headerLength = eqb-true (total lens) headerLength (not-false (eqb (total lens) headerLength) (d .0)) in
+      ((not-false (isKeyLength keyLength) (a .0), omega arith), eqb-true tagLength 16 (not-false (eqb tagLength 16) (f .0)))
+
+-- a tag of 16 bytes is its own first 16
+pub whole-tag : (tag : List ℕ) → length tag ≡ 16 → part tag 0 16 ≡ tag
+whole-tag tag e = take-all 16 tag (omega arith)

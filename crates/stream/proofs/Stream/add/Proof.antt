@@ -1,0 +1,39 @@
+-- `stream::Stream::add` meets its contract.
+-- Assumes nothing.
+use borrow.Author.Needs.{needs}
+use mathlib.Core.Path.{_≡_, refl, ap, sym, _∙_}
+use lib.ListN.{length}
+use Rattle.siv.specs.Answer.{first}
+use Rattle.siv.proofs.Laws.{told-refused}
+use Rattle.stream.specs.Steps.{addRows, addStep}
+use Rattle.stream.proofs.Laws.{refused, done, passed, add-admits}
+use Rattle.stream.proofs.Stream.add.Statement.{statement}
+use Rattle.stream.proofs.Stream.add.Tie as tie
+
+none : (c : tie.At-match-keys2) → first (addRows (c .before .before .before .args .self) (length (c .before .before .before .args .piece .now))) ≡ 0
+none c = passed (c .before .judge-add .result) _ (c .match .keys2) (c .before .judge-add .ensures)
+
+judge-add-requires : tie.Need-judge-add-requires
+judge-add-requires c κs = search needs
+
+enum-told : tie.Need-enum-told
+enum-told c = search needs
+
+returns : tie.Need-returns
+unfolding addStep
+returns c = refused (c .before .before .judge-add .result) _ _ _ _ (told-refused (c .before .before .judge-add .result) (c .before .match .keys1)) (c .before .before .judge-add .ensures)
+
+enum-told-2 : tie.Need-enum-told-2
+enum-told-2 c = search needs
+
+absorb-requires : tie.Need-absorb-requires
+absorb-requires c κs = let a = add-admits _ _ (none (c .before)) in
+    (a .0 .width, a .1)
+
+returns-2 : tie.Need-returns-2
+unfolding addStep
+returns-2 c = done _ _ _ _ (none (c .before .before)) (record { outcome = refl; state = c .absorb .ensures; output = refl })
+
+pub add-spec : {M : Type 1} → statement M
+add-spec =
+    tie.close (tie.spec judge-add-requires enum-told returns enum-told-2 absorb-requires returns-2)

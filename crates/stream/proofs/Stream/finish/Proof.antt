@@ -1,0 +1,75 @@
+-- `stream::Stream::finish` meets its contract.
+-- Assumes nothing.
+use native.Mathlib.Omega.{arith}
+use borrow.Author.Needs.{needs}
+use mathlib.Core.Path.{_≡_, refl, ap, sym, _∙_}
+use mathlib.Core.List.{List}
+use Prim.Native.Nat.{ℕ}
+use lib.ListN.{length}
+use Rattle.octets.specs.Octets.{same}
+use Rattle.siv.specs.Answer.{first}
+use Rattle.siv.proofs.Laws.{told-refused}
+use Rattle.stream.specs.Steps.{finishRows}
+use Rattle.stream.proofs.Laws.{passed, finish-admits, finish-refused, finish-done, finish-forged}
+use Rattle.stream.proofs.Stream.finish.Statement.{statement}
+use Rattle.stream.proofs.Stream.finish.Tie as tie
+
+none : (c : tie.At-match-keys2) → first (finishRows (c .before .before .before .args .self) (length (c .before .before .before .args .output .now))) ≡ 0
+none c = passed (c .before .judge-finish .result) _ (c .match .keys2) (c .before .judge-finish .ensures)
+
+judge-finish-requires : tie.Need-judge-finish-requires
+judge-finish-requires c κs = search needs
+
+enum-told : tie.Need-enum-told
+enum-told c = search needs
+
+returns : tie.Need-returns
+returns c = finish-refused _ _ (c .before .before .judge-finish .result) (told-refused (c .before .before .judge-finish .result) (c .before .match .keys1)) (c .before .before .judge-finish .ensures)
+
+enum-told-2 : tie.Need-enum-told-2
+enum-told-2 c = search needs
+
+make-tag-requires : tie.Need-make-tag-requires
+make-tag-requires c κs = finish-admits _ _ (none (c .before .before)) .0 .width
+
+same-block-requires : tie.Need-same-block-requires
+same-block-requires c κs = search needs
+
+ended-requires : tie.Need-ended-requires
+ended-requires c κs = search needs
+
+returns-2 : tie.Need-returns-2
+returns-2 c = let s = c .before .before .before .before .before .before .before .before .before .args .self in
+    let agrees = sym (ap (λ (t : List ℕ). same t (s .v)) (c .before .before .before .make-tag .ensures)) ∙ sym (c .before .before .same-block .ensures) ∙ c .before .if1 .taken in
+    finish-done s _ (none (c .before .before .before .before .before .before)) (c .ended .ensures) agrees
+
+zero-at-requires : tie.Need-zero-at-requires
+zero-at-requires c κs = omega (arith, finish-admits (c .before .before .before .before .before .before .before .before .before .args .self) (length (c .before .before .before .before .before .before .before .before .before .args .output .now)) (none (c .before .before .before .before .before .before)) .1)
+
+ended-requires-2 : tie.Need-ended-requires-2
+ended-requires-2 c κs = search needs
+
+same-length : tie.Need-same-length
+same-length c = search needs
+
+returns-3 : tie.Need-returns-3
+returns-3 c = let s = c .before .before .before .before .before .before .before .before .before .before .before .before .before .args .self in
+    let differs = sym (ap (λ (t : List ℕ). same t (s .v)) (c .before .before .before .before .before .before .before .make-tag .ensures)) ∙ sym (c .before .before .before .before .before .before .same-block .ensures) ∙ c .before .before .before .before .before .if1 .left in
+    finish-forged s _ (none (c .before .before .before .before .before .before .before .before .before .before)) (c .ended2 .ensures) _ differs (c .before .before .before .zero-at .ensures)
+
+pub finish-spec : {M : Type 1} → statement M
+finish-spec =
+    tie.close
+    (tie.spec
+    judge-finish-requires
+    enum-told
+    returns
+    enum-told-2
+    make-tag-requires
+    same-block-requires
+    ended-requires
+    returns-2
+    zero-at-requires
+    ended-requires-2
+    same-length
+    returns-3)

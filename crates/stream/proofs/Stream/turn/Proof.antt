@@ -1,0 +1,60 @@
+-- `stream::Stream::turn` meets its contract.
+-- Assumes nothing.
+use borrow.Author.Needs.{needs}
+use mathlib.Core.Path.{_≡_, refl, ap, sym, _∙_}
+use mathlib.Core.List.{List}
+use lib.ListN.{length}
+use Rattle.octets.specs.Octets.{put}
+use Rattle.siv.specs.Answer.{first}
+use Rattle.siv.proofs.Laws.{told-refused}
+use Rattle.stream.specs.declared.Stream.{Stream}
+use Rattle.stream.specs.Steps.{turnRows, turned, turnStep}
+use Rattle.stream.proofs.Laws.{refused, done, passed, turn-admits}
+use Rattle.stream.proofs.Stream.turn.Statement.{statement}
+use Rattle.stream.proofs.Stream.turn.Tie as tie
+
+none : (c : tie.At-match-keys2) → first (turnRows (c .before .before .before .args .self) (length (c .before .before .before .args .output .now))) ≡ 0
+none c = passed (c .before .judge-turn .result) _ (c .match .keys2) (c .before .judge-turn .ensures)
+
+judge-turn-requires : tie.Need-judge-turn-requires
+judge-turn-requires c κs = search needs
+
+enum-told : tie.Need-enum-told
+enum-told c = search needs
+
+returns : tie.Need-returns
+unfolding turnStep
+returns c = refused (c .before .before .judge-turn .result) _ _ _ _ (told-refused (c .before .before .judge-turn .result) (c .before .match .keys1)) (c .before .before .judge-turn .ensures)
+
+enum-told-2 : tie.Need-enum-told-2
+enum-told-2 c = search needs
+
+make-tag-requires : tie.Need-make-tag-requires
+make-tag-requires c κs = turn-admits (c .before .before .before .before .args .self) (length (c .before .before .before .before .args .output .now)) (none (c .before)) .0 .width
+
+store-requires : tie.Need-store-requires
+store-requires c κs = turn-admits _ _ (none (c .before .before .before)) .1
+
+same-length : tie.Need-same-length
+same-length c = search needs
+
+returns-2 : tie.Need-returns-2
+unfolding turnStep
+returns-2 c =
+    let args = c .before .before .before .before .before .before .before .before .before .args in
+    let tag = c .before .before .before .before .make-tag .ensures in
+    done _ _ _ _ (none (c .before .before .before .before .before .before))
+    (record { outcome = refl; state = ap (turned (args .self)) tag; output = c .before .before .store .ensures ∙ ap (put (args .output .now) 0) tag })
+
+pub turn-spec : {M : Type 1} → statement M
+turn-spec =
+    tie.close
+    (tie.spec
+    judge-turn-requires
+    enum-told
+    returns
+    enum-told-2
+    make-tag-requires
+    store-requires
+    same-length
+    returns-2)

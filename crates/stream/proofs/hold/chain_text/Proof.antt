@@ -1,0 +1,27 @@
+-- `stream::hold::chain_text` meets its contract.
+-- Assumes nothing.
+use borrow.Author.Needs.{needs}
+use mathlib.Core.List.{_++_}
+use Rattle.aes.specs.Cipher.{cipher}
+use mathlib.Core.Path.{_≡_, ap, sym}
+use Rattle.cmac.specs.Cmac.{chain}
+use Rattle.stream.proofs.hold.chain_text.Statement.{statement}
+use Rattle.stream.proofs.hold.chain_text.Tie as tie
+
+returns : tie.Need-returns
+unfolding chain
+returns c =
+    let args = c .before .before .before .args in
+    ap (chain (cipher (args .width) (args .keys .now)) (args .c) (args .a .now ++ args .b .now)) (sym (c .if1 .taken))
+
+engine-requires : tie.Need-engine-requires
+engine-requires c κs = search needs
+
+chain-joined-requires : tie.Need-chain-joined-requires
+chain-joined-requires c κs = search needs
+
+returns-2 : tie.Need-returns-2
+returns-2 c = search needs
+
+pub chain-text-spec : {M : Type 1} → statement M
+chain-text-spec = tie.close (tie.spec returns engine-requires chain-joined-requires returns-2)

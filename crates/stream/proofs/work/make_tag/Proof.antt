@@ -1,0 +1,64 @@
+-- `stream::work::make_tag` meets its contract.
+-- Assumes nothing.
+use borrow.Author.Needs.{needs}
+use mathlib.Core.Path.{ap₂, _∙_}
+use mathlib.Core.List.{List}
+use Prim.Native.Nat.{ℕ, _-_}
+use native.Mathlib.Omega.{arith}
+use lib.ListN.{take, length-take}
+use Rattle.aes.specs.Cipher.{cipher}
+use Rattle.cmac.specs.declared.Subkeys.{Subkeys}
+use Rattle.s2v.specs.S2v.{tailLength, tagFrom}
+use Rattle.stream.specs.State.{tagOfState}
+use Rattle.stream.proofs.Laws.{Cut, cut}
+use mathlib.Core.Path.{_≡_, sym}
+use lib.ListN.{length}
+use Rattle.stream.proofs.work.make_tag.Statement.{statement}
+use Rattle.stream.proofs.work.make_tag.Tie as tie
+
+tail-length : (start : tie.Start) → length (start .args .s .tail) ≡ 31
+tail-length start = search needs
+
+engine-requires : tie.Need-engine-requires
+engine-requires c κs = search needs
+
+tail-len-requires : tie.Need-tail-len-requires
+tail-len-requires c κs = search needs
+
+make-subkeys-requires : tie.Need-make-subkeys-requires
+make-subkeys-requires c κs = search needs
+
+sub-tag-from : tie.Need-sub-tag-from
+sub-tag-from c = search needs
+
+part-tag-from-start : tie.Need-part-tag-from-start
+part-tag-from-start c = search needs
+
+part-tag-from-end : tie.Need-part-tag-from-end
+part-tag-from-end c = let args = c .before .before .before .before .before .before .before .before .before .before .before .args in
+    omega (arith, tail-length (c .before .before .before .before .before .before .before .before .before .before .before), cut (args .s .total), c .before .before .before .before .tail-len .ensures)
+
+tag-from-requires : tie.Need-tag-from-requires
+tag-from-requires c κs = let args = c .before .before .before .before .before .before .before .before .before .before .before .before .args in
+    (search needs, c .before .before .before .before .before .before .before .before .before .before .before .before .pre, simp length-take (omega (arith, tail-length (c .before .before .before .before .before .before .before .before .before .before .before .before))))
+
+returns : tie.Need-returns
+unfolding tagOfState
+returns c =
+    let s = c .before .before .before .before .before .before .before .before .before .before .before .before .before .args .s in
+    let used : c .before .before .before .before .before .before .tail-len .result - 0 ≡ tailLength (s .total) = omega (arith, c .before .before .before .before .before .before .tail-len .ensures) in
+    c .tag-from .ensures
+    ∙ ap₂ (λ (k : Subkeys) (n : ℕ). tagFrom (cipher (s .width) (s .«mac_keys»)) k (s .d) (s .chain) (take n (s .tail))) (c .before .before .before .before .before .make-subkeys .ensures) used
+
+pub make-tag-spec : {M : Type 1} → statement M
+make-tag-spec =
+    tie.close
+    (tie.spec
+    engine-requires
+    tail-len-requires
+    make-subkeys-requires
+    sub-tag-from
+    part-tag-from-start
+    part-tag-from-end
+    tag-from-requires
+    returns)

@@ -1,0 +1,81 @@
+-- `stream::work::start` meets its contract.
+-- Assumes nothing.
+use borrow.Author.Needs.{needs}
+use mathlib.Core.Path.{_≡_, ap, sym, _∙_}
+use mathlib.Core.List.{List}
+use Prim.Native.Nat.{ℕ, _-_, _/_}
+use native.Mathlib.Omega.{arith}
+use lib.ListN.{length, take, drop, length-take, length-drop}
+use Rattle.octets.proofs.Strings.{part-rest}
+use Rattle.aes.specs.Aes.{isWidth}
+use Rattle.aes.specs.KeyExpansion.{roundKeys}
+use Rattle.siv.proofs.Laws.{KeyHalves, halves}
+use Rattle.stream.proofs.Laws.{started}
+use Rattle.stream.proofs.work.start.Statement.{statement}
+use Rattle.stream.proofs.work.start.Tie as tie
+
+engine-requires : tie.Need-engine-requires
+engine-requires c κs = search needs
+
+sub-half-keys : tie.Need-sub-half-keys
+sub-half-keys c = search needs
+
+part-half-keys-start : tie.Need-part-half-keys-start
+part-half-keys-start c = search needs
+
+part-half-keys-end : tie.Need-part-half-keys-end
+part-half-keys-end c = search needs
+
+half-keys-requires : tie.Need-half-keys-requires
+half-keys-requires c κs = let key = c .before .before .before .before .before .before .args .key .now in
+    let h : KeyHalves (length key) = halves _ (c .before .before .before .before .before .before .pre .0) in
+    let long : length (take (length key / 2 - 0) key) ≡ length key / 2 = simp length-take (omega arith) in
+    (search needs, ap isWidth long ∙ h .half)
+
+sub-half-keys-2 : tie.Need-sub-half-keys-2
+sub-half-keys-2 c = search needs
+
+part-half-keys-start-2 : tie.Need-part-half-keys-start-2
+part-half-keys-start-2 c = search needs
+
+part-half-keys-end-2 : tie.Need-part-half-keys-end-2
+part-half-keys-end-2 c = search needs
+
+half-keys-requires-2 : tie.Need-half-keys-requires-2
+half-keys-requires-2 c κs = let key = c .before .before .before .before .before .before .before .before .before .args .key .now in
+    let h : KeyHalves (length key) = halves _ (c .before .before .before .before .before .before .before .before .before .pre .0) in
+    let long : length (drop (length key / 2) key) ≡ length key / 2 = simp length-drop (omega arith) in
+    (search needs, ap (λ (l : List ℕ). isWidth (length l)) (part-rest key (length key / 2)) ∙ ap isWidth long ∙ h .half)
+
+zero-cipher-requires : tie.Need-zero-cipher-requires
+zero-cipher-requires c κs = (search needs, halves _ (c .before .before .before .before .before .before .before .before .before .before .before .before .pre .0) .most)
+
+make-subkeys-requires : tie.Need-make-subkeys-requires
+make-subkeys-requires c κs = search needs
+
+make-header-result-requires : tie.Need-make-header-result-requires
+make-header-result-requires c κs = (search needs, halves _ (c .before .before .before .before .before .before .before .before .before .before .before .before .before .before .before .before .pre .0) .most, c .before .before .before .before .before .before .before .before .before .before .before .before .before .before .before .before .pre .1)
+
+returns : tie.Need-returns
+returns c = let key = c .before .before .before .before .before .before .before .before .before .before .before .before .before .before .before .before .before .args .key .now in
+    let front : length key / 2 - 0 ≡ length key / 2 = omega arith in
+    started key _ _ _ (c .before .before .before .before .before .before .before .before .before .before .half-keys .ensures ∙ ap (λ (n : ℕ). roundKeys (take n key)) front) (c .before .before .before .before .before .before .before .half-keys2 .ensures ∙ ap roundKeys (part-rest key (length key / 2)))
+    (c .before .before .before .before .zero-cipher .ensures) (c .before .make-subkeys .ensures) (c .make-header-result .ensures)
+
+pub start-spec : {M : Type 1} → statement M
+start-spec =
+    tie.close
+    (tie.spec
+    engine-requires
+    sub-half-keys
+    part-half-keys-start
+    part-half-keys-end
+    half-keys-requires
+    sub-half-keys-2
+    part-half-keys-start-2
+    part-half-keys-end-2
+    half-keys-requires-2
+    zero-cipher-requires
+    make-subkeys-requires
+    make-header-result-requires
+    returns)

@@ -1,0 +1,105 @@
+-- The stream state: which ones a call takes, and what a piece makes of one. Document 01, "Piecewise calls".
+-- Assumes nothing.
+use mathlib.Core.Bool.{Bool, true, not}
+use mathlib.Core.List.{List, [], _∷_, _++_}
+use Prim.Native.Nat.{ℕ, _+_, _-_, _*_, _/_}
+use lib.Dec.{eqb, ltb}
+use lib.ListN.{length, take, drop, replicate}
+use Rattle.octets.specs.Octets.{put, both}
+use Rattle.aes.specs.Aes.{isWidth}
+use Rattle.aes.specs.Cipher.{cipher}
+use Rattle.aes.specs.KeyExpansion.{roundKeys}
+use Rattle.cmac.specs.Cmac.{zeros, chain, subkeys, zeroCipher}
+use Rattle.s2v.specs.S2v.{tailLength, headerResult, tagFrom}
+use Rattle.siv.specs.Answer.{pickNumber}
+use Rattle.siv.specs.Siv.{macKey, ctrKey}
+use Rattle.siv.specs.Calls.{limit}
+use Rattle.stream.specs.declared.Stream.{Stream}
+
+-- the ended state: all fields zero
+abbrev pub ended : Stream
+ended =
+    record {
+      stage = 0;
+      width = 0;
+      «mac_keys» = replicate 240 0;
+      «ctr_keys» = replicate 240 0;
+      l = zeros;
+      d = zeros;
+      chain = zeros;
+      v = zeros;
+      total = 0;
+      written = 0;
+      tail = replicate 31 0;
+    }
+
+-- the state that a key and a header list begin with, in a stage and with a tag
+unfoldable pub start : List ℕ → List (List ℕ) → ℕ → List ℕ → Stream
+start key ss stage v =
+    let width = length key / 2 in
+    let E = cipher width (roundKeys (macKey key)) in
+    record {
+      stage = stage;
+      width = width;
+      «mac_keys» = roundKeys (macKey key);
+      «ctr_keys» = roundKeys (ctrKey key);
+      l = zeroCipher E;
+      d = headerResult E (subkeys (zeroCipher E)) ss;
+      chain = zeros;
+      v = v;
+      total = 0;
+      written = 0;
+      tail = replicate 31 0;
+    }
+
+-- whether a string is zeros alone
+unfoldable pub allZero : List ℕ → Bool
+allZero [] = true
+allZero (b ∷ l) = both (eqb b 0) (allZero l)
+
+-- the most that written may be: total in stage 2, else 0
+abbrev pub writtenLimit : ℕ → ℕ → ℕ
+writtenLimit stage total = pickNumber (eqb stage 2) total 0
+
+-- what refusal 9 judges, for a call that wants a stage: the stage, the key width, total and written within their limits, and the unused bytes of the tail zero
+unfoldable pub fits : ℕ → Stream → Bool
+fits wanted s =
+    both (eqb (s .stage) wanted)
+    (both (isWidth (s .width))
+    (both (not (ltb limit (s .total)))
+    (both (not (ltb (writtenLimit wanted (s .total)) (s .written))) (allZero (drop (tailLength (s .total)) (s .tail))))))
+
+-- the bytes that wait for the plaintext's end: the used bytes of the tail
+abbrev pub held : Stream → List ℕ
+held s = take (tailLength (s .total)) (s .tail)
+
+-- a tail with these used bytes, its others zero
+abbrev pub tailOf : List ℕ → List ℕ
+tailOf t = put (replicate 31 0) 0 t
+
+-- how many blocks of n bytes stand before their tail
+unfoldable pub passedBlocks : ℕ → ℕ
+passedBlocks n = (n - tailLength n) / 16
+
+-- the state with a piece of plaintext more: whole blocks go from the tail into the chain until a tail's length is left
+unfoldable pub added : Stream → List ℕ → Stream
+added s piece =
+    let total = s .total + length piece in
+    let n = passedBlocks total - passedBlocks (s .total) in
+    record {
+      stage = s .stage;
+      width = s .width;
+      «mac_keys» = s .«mac_keys»;
+      «ctr_keys» = s .«ctr_keys»;
+      l = s .l;
+      d = s .d;
+      chain = chain (cipher (s .width) (s .«mac_keys»)) (s .chain) (held s ++ piece) n;
+      v = s .v;
+      total = total;
+      written = s .written;
+      tail = tailOf (drop (16 * n) (held s ++ piece));
+    }
+
+-- V of all that was added
+unfoldable pub tagOfState : Stream → List ℕ
+tagOfState s = tagFrom (cipher (s .width) (s .«mac_keys»)) (subkeys (s .l)) (s .d) (s .chain) (held s)

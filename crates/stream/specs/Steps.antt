@@ -1,0 +1,155 @@
+-- The piecewise calls on every state and input: number, length, the state after the call and the last contents of the lent output, from document 01.
+-- Assumes nothing.
+use mathlib.Core.Path.{_≡_}
+use mathlib.Core.Bool.{Bool, true, false, not}
+use mathlib.Core.List.{List, [], _∷_, _++_}
+use Prim.Native.Nat.{ℕ, _+_}
+use lib.Dec.{eqb, ltb}
+use lib.ListN.{length, replicate}
+use Rattle.octets.specs.Octets.{put, both, same}
+use Rattle.aes.specs.Cipher.{cipher}
+use Rattle.cmac.specs.Cmac.{zeros}
+use Rattle.header.specs.Header.{strings}
+use Rattle.ctr.specs.Counter.{xorStream}
+use Rattle.siv.specs.Answer.{Outcome, Row, row, first, outcomeOf, verdict}
+use Rattle.siv.specs.Calls.{limit, headerRows}
+use Rattle.stream.specs.declared.Stream.{Stream}
+use Rattle.stream.specs.declared.Step.{Step}
+use Rattle.stream.specs.State.{ended, start, fits, added, tagOfState}
+
+-- everything that a call does; a call that is lent no output has the empty one
+pub record Result : Type 0 where
+  pub outcome : Outcome
+  pub state : Stream
+  pub output : List ℕ
+
+-- a call gave what its definition says
+pub record Did (result : Result) (step : Step) (lastOutput : List ℕ) : Type 0 where
+  pub outcome : outcomeOf (step .answer) ≡ result .outcome
+  pub state : step .state ≡ result .state
+  pub output : lastOutput ≡ result .output
+
+abbrev pub success : ℕ → Stream → List ℕ → Result
+success n s output = record { outcome = record { number = 0; count = n }; state = s; output = output }
+
+abbrev pub refusal : ℕ → Stream → List ℕ → Result
+refusal n s output = record { outcome = verdict n; state = s; output = output }
+
+abbrev pub pickResult : Bool → Result → Result → Result
+pickResult true a b = a
+pickResult false a b = b
+
+-- the result of a call whose rows give a number: success, or the refusal with state and output as given
+abbrev pub settle : ℕ → Result → Stream → List ℕ → Result
+settle n done s output = pickResult (eqb n 0) done (refusal n s output)
+
+-- ---- begin
+
+-- the sealer's: a refusal returns the ended state
+unfoldable pub beginSealer : List ℕ → List ℕ → List ℕ → Result
+beginSealer key bytes lens =
+    settle (first (headerRows (length key) lens (length bytes))) (success 0 (start key (strings bytes lens) 1 zeros) []) ended []
+
+-- the opener's refusals
+abbrev pub openerRows : ℕ → List ℕ → ℕ → ℕ → List Row
+openerRows keyLength lens headerLength tagLength = headerRows keyLength lens headerLength ++ (row 5 (not (eqb tagLength 16)) ∷ [])
+
+-- the opener's, with a tag
+unfoldable pub beginOpener : List ℕ → List ℕ → List ℕ → List ℕ → Result
+beginOpener key bytes lens tag =
+    settle (first (openerRows (length key) lens (length bytes) (length tag))) (success 0 (start key (strings bytes lens) 3 tag) []) ended []
+
+-- ---- the sealer's calls
+
+abbrev pub addRows : Stream → ℕ → List Row
+addRows s piece = row 9 (not (fits 1 s)) ∷ row 4 (ltb limit (s .total + piece)) ∷ []
+
+-- add a piece
+unfoldable pub addStep : Stream → List ℕ → Result
+addStep s piece = settle (first (addRows s (length piece))) (success 0 (added s piece) []) s []
+
+abbrev pub turnRows : Stream → ℕ → List Row
+turnRows s output = row 9 (not (fits 1 s)) ∷ row 6 (ltb output 16) ∷ []
+
+-- the state once V is known: stage 2 and V, and no other field
+abbrev pub turned : Stream → List ℕ → Stream
+turned s v =
+    record {
+      stage = 2;
+      width = s .width;
+      «mac_keys» = s .«mac_keys»;
+      «ctr_keys» = s .«ctr_keys»;
+      l = s .l;
+      d = s .d;
+      chain = s .chain;
+      v = v;
+      total = s .total;
+      written = s .written;
+      tail = s .tail;
+    }
+
+-- turn: V goes to the first 16 bytes of the output
+unfoldable pub turnStep : Stream → List ℕ → Result
+turnStep s output =
+    let v = tagOfState s in
+    settle (first (turnRows s (length output))) (success 16 (turned s v) (put output 0 v)) s output
+
+abbrev pub writeRows : Stream → ℕ → ℕ → List Row
+writeRows s piece output = row 9 (not (fits 2 s)) ∷ row 4 (ltb (s .total) (s .written + piece)) ∷ row 6 (ltb output piece) ∷ []
+
+-- the state with n bytes more written, and no other field changed
+abbrev pub wrote : Stream → ℕ → Stream
+wrote s n =
+    record {
+      stage = s .stage;
+      width = s .width;
+      «mac_keys» = s .«mac_keys»;
+      «ctr_keys» = s .«ctr_keys»;
+      l = s .l;
+      d = s .d;
+      chain = s .chain;
+      v = s .v;
+      total = s .total;
+      written = s .written + n;
+      tail = s .tail;
+    }
+
+-- a piece xored with the state's key stream, from a place of it on
+unfoldable pub streamedAt : Stream → ℕ → List ℕ → List ℕ
+streamedAt s place piece = xorStream (cipher (s .width) (s .«ctr_keys»)) (s .v) place piece
+
+-- write a piece: its ciphertext goes to the front of the output
+unfoldable pub writeStep : Stream → List ℕ → List ℕ → Result
+writeStep s piece output =
+    settle (first (writeRows s (length piece) (length output)))
+    (success (length piece) (wrote s (length piece)) (put output 0 (streamedAt s (s .written) piece)))
+    s
+    output
+
+abbrev pub closeRows : Stream → List Row
+closeRows s = row 9 (not (both (fits 2 s) (not (ltb (s .written) (s .total))))) ∷ []
+
+-- close
+unfoldable pub closeStep : Stream → Result
+closeStep s = settle (first (closeRows s)) (success 0 ended []) s []
+
+-- ---- the opener's calls
+
+abbrev pub feedRows : Stream → ℕ → ℕ → List Row
+feedRows s piece output = row 9 (not (fits 3 s)) ∷ row 4 (ltb limit (s .total + piece)) ∷ row 6 (ltb output (s .total + piece)) ∷ []
+
+-- feed a piece: its plaintext goes to the output at offset total, and is added
+unfoldable pub feedStep : Stream → List ℕ → List ℕ → Result
+feedStep s piece output =
+    let p = streamedAt s (s .total) piece in
+    settle (first (feedRows s (length piece) (length output))) (success (length piece) (added s p) (put output (s .total) p)) s output
+
+-- the refusals of finish but for a forged string
+abbrev pub finishRows : Stream → ℕ → List Row
+finishRows s output = row 9 (not (fits 3 s)) ∷ row 6 (ltb output (s .total)) ∷ []
+
+-- finish: the verdict; a forged string's plaintext is wiped, and the state is ended either way
+unfoldable pub finishStep : Stream → List ℕ → Result
+finishStep s output =
+    let number = first (finishRows s (length output) ++ (row 8 (not (same (tagOfState s) (s .v))) ∷ [])) in
+    pickResult (eqb number 8) (refusal 8 ended (put output 0 (replicate (s .total) 0))) (settle number (success (s .total) ended output) s output)

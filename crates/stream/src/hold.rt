@@ -1,0 +1,141 @@
+// The tail and the chain: what a piece makes of them, by blocks.
+ghost use mathlib.Core.Path.{_≡_};
+ghost use mathlib.Core.List.{_++_};
+ghost use Prim.Native.Nat.{_+_, _*_, _≤_, _<_};
+ghost use lib.ListN.{length, drop};
+ghost use Rattle.octets.specs.Octets.{xors, put, part};
+ghost use Rattle.aes.specs.Cipher.{cipher};
+ghost use Rattle.aes.specs.Tables.{Ready};
+ghost use Rattle.cmac.specs.Cmac.{chain};
+ghost use Rattle.siv.specs.Calls.{limit};
+ghost use Rattle.stream.specs.State.{passedBlocks, tailOf, added};
+use crate::Stream;
+use crate::Tail;
+use aes::Engine;
+use aes::RoundKeys;
+use octets::Block;
+
+// How many blocks of n bytes stand before their tail.
+fn passed_blocks(n: usize) -> usize
+    ensures { λ r. ⌜ r ≡ passedBlocks n ⌝ }
+{
+    (n - s2v::tail_len(n)) / 16
+}
+
+// Copies n bytes from a place of two joined strings to the front of a slice.
+fn copy_joined(dst: &mut [u8], a: &[u8], b: &[u8], at: usize, n: usize)
+    requires { ⌜ (n ≤ length (now dst)) × (at + n ≤ length (now a) + length (now b)) ⌝ }
+    ensures { λ _. ⌜ now (dst .exit) ≡ put (now (dst .entry)) 0 (part (now (a .entry) ++ now (b .entry)) at n) ⌝ }
+{
+    if a.len() <= at {
+        let from = at - a.len();
+        octets::copy_at(dst, 0, &b[from..from + n]);
+        return;
+    }
+    let k = a.len() - at;
+    if n <= k {
+        octets::copy_at(dst, 0, &a[at..at + n]);
+        return;
+    }
+    octets::copy_at(dst, 0, &a[at..]);
+    octets::copy_at(dst, k, &b[..n - k]);
+}
+
+// The block at a place of two joined strings.
+fn load_joined(a: &[u8], b: &[u8], at: usize) -> Block
+    requires { ⌜ at + 16 ≤ length (now a) + length (now b) ⌝ }
+    ensures { λ r. ⌜ r ≡ part (now (a .entry) ++ now (b .entry)) at 16 ⌝ }
+{
+    if a.len() <= at {
+        return octets::load(b, at - a.len());
+    }
+    let mut block = [0u8; 16];
+    copy_joined(&mut block, a, b, at, 16);
+    block
+}
+
+// The chain with block n of two joined strings.
+fn absorb_joined(
+    engine: &Engine,
+    width: usize,
+    keys: &RoundKeys,
+    c: Block,
+    a: &[u8],
+    b: &[u8],
+    n: usize,
+) -> Block
+    requires { ⌜ Ready (now engine) × (width ≤ 32) × (16 * n + 16 ≤ length (now a) + length (now b)) ⌝ }
+    ensures { λ r. ⌜ r ≡ cipher width (now (keys .entry)) (xors c (part (now (a .entry) ++ now (b .entry)) (16 * n) 16)) ⌝ }
+{
+    aes::encrypt(
+        engine,
+        width,
+        keys,
+        octets::xor_block(c, load_joined(a, b, 16 * n)),
+    )
+}
+
+// The chain from c over the first n blocks of two joined strings.
+fn chain_joined(
+    engine: &Engine,
+    width: usize,
+    keys: &RoundKeys,
+    c: Block,
+    a: &[u8],
+    b: &[u8],
+    n: usize,
+) -> Block
+    requires { ⌜ Ready (now engine) × (width ≤ 32) × (16 * n ≤ length (now a) + length (now b)) ⌝ }
+    ensures { λ r. ⌜ r ≡ chain (cipher width (now (keys .entry))) c (now (a .entry) ++ now (b .entry)) n ⌝ }
+{
+    let mut x = c;
+    let mut i = 0;
+    while i < n {
+        let next = absorb_joined(engine, width, keys, x, a, b, i);
+        x = next;
+        i += 1;
+    }
+    x
+}
+
+// The same, and where there is no block, no table is built.
+fn chain_text(width: usize, keys: &RoundKeys, c: Block, a: &[u8], b: &[u8], n: usize) -> Block
+    requires { ⌜ (width ≤ 32) × (16 * n ≤ length (now a) + length (now b)) ⌝ }
+    ensures { λ r. ⌜ r ≡ chain (cipher width (now (keys .entry))) c (now (a .entry) ++ now (b .entry)) n ⌝ }
+{
+    if n == 0 {
+        return c;
+    }
+    let engine = aes::engine();
+    chain_joined(&engine, width, keys, c, a, b, n)
+}
+
+// The last n bytes of two joined strings, from a place on, as a tail.
+fn tail_joined(a: &[u8], b: &[u8], at: usize, n: usize) -> Tail
+    requires { ⌜ (at + n ≡ length (now a) + length (now b)) × (n < 32) ⌝ }
+    ensures { λ r. ⌜ r ≡ tailOf (drop at (now (a .entry) ++ now (b .entry))) ⌝ }
+{
+    let mut tail = [0u8; 31];
+    copy_joined(&mut tail, a, b, at, n);
+    tail
+}
+
+// The state with a piece of plaintext more.
+pub(crate) fn absorb(s: Stream, piece: &[u8]) -> Stream
+    requires { ⌜ (s .width ≤ 32) × (s .total + length (now piece) ≤ limit) ⌝ }
+    ensures { λ r. ⌜ r ≡ added s (now (piece .entry)) ⌝ }
+{
+    let mut next = s;
+    let total = s.total + piece.len();
+    let n = passed_blocks(total) - passed_blocks(s.total);
+    let used = s2v::tail_len(s.total);
+    let tail = s.tail;
+    let keys = s.mac_keys;
+    let c = s.chain;
+    let chain = chain_text(s.width, &keys, c, &tail[0..used], piece, n);
+    let rest = tail_joined(&tail[0..used], piece, 16 * n, s2v::tail_len(total));
+    next.chain = chain;
+    next.tail = rest;
+    next.total = total;
+    next
+}

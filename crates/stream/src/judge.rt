@@ -1,0 +1,169 @@
+// Which refusal is due, from a state and from lengths.
+ghost use mathlib.Core.Path.{_≡_};
+ghost use mathlib.Core.Bool.{not};
+ghost use Prim.Native.Nat.{_+_, _≤_};
+ghost use lib.Dec.{ltb};
+ghost use lib.ListN.{length, drop};
+ghost use Rattle.octets.specs.Octets.{both};
+ghost use Rattle.siv.specs.Answer.{outcomeOf, first, verdict};
+ghost use Rattle.siv.specs.Calls.{limit};
+ghost use Rattle.stream.specs.State.{allZero, writtenLimit, fits};
+ghost use Rattle.stream.specs.Steps.{openerRows, addRows, turnRows, writeRows, feedRows, finishRows};
+use crate::Stream;
+use siv::Answer;
+use siv::Refusal;
+
+// Whether the bytes of a slice from a place on are zero.
+fn zero_from(s: &[u8], at: usize) -> bool
+    ensures { λ r. ⌜ r ≡ allZero (drop at (now (s .entry))) ⌝ }
+{
+    let mut i = at;
+    while i < s.len() {
+        if s[i] != 0 {
+            return false;
+        }
+        i += 1;
+    }
+    true
+}
+
+// The most that written may be in a stage.
+fn written_limit(stage: u8, total: usize) -> usize
+    ensures { λ r. ⌜ r ≡ writtenLimit stage total ⌝ }
+{
+    if stage == 2 {
+        return total;
+    }
+    0
+}
+
+// Whether a state is one for a call that wants a stage.
+fn fits(wanted: u8, s: Stream) -> bool
+    ensures { λ r. ⌜ r ≡ fits wanted s ⌝ }
+{
+    if s.stage != wanted {
+        return false;
+    }
+    if !aes::is_width(s.width) {
+        return false;
+    }
+    if Stream::LIMIT < s.total {
+        return false;
+    }
+    if written_limit(wanted, s.total) < s.written {
+        return false;
+    }
+    let tail = s.tail;
+    zero_from(&tail, s2v::tail_len(s.total))
+}
+
+// Whether total with n bytes more is past a limit.
+fn passes(most: usize, total: usize, n: usize) -> bool
+    requires { ⌜ total ≤ most ⌝ }
+    ensures { λ r. ⌜ r ≡ ltb most (total + n) ⌝ }
+{
+    most - total < n
+}
+
+// The refusals of the opener's begin.
+pub(crate) fn judge_opener(
+    key_len: usize,
+    lens: &[u32],
+    header_len: usize,
+    tag_len: usize,
+) -> Answer
+    ensures { λ r. ⌜ outcomeOf r ≡ verdict (first (openerRows «key_len» (now (lens .entry)) «header_len» «tag_len»)) ⌝ }
+{
+    let answer = siv::judge::judge_header(key_len, lens, header_len);
+    if let Answer::Refused(_) = answer {
+        return answer;
+    }
+    if tag_len == Stream::TAG_LEN {
+        return Answer::Done(0);
+    }
+    Answer::Refused(Refusal::SealedLength)
+}
+
+// The refusals of add.
+pub(crate) fn judge_add(s: Stream, n: usize) -> Answer
+    ensures { λ r. ⌜ outcomeOf r ≡ verdict (first (addRows s n)) ⌝ }
+{
+    if !fits(1, s) {
+        return Answer::Refused(Refusal::State);
+    }
+    if passes(Stream::LIMIT, s.total, n) {
+        return Answer::Refused(Refusal::TooLong);
+    }
+    Answer::Done(0)
+}
+
+// The refusals of turn.
+pub(crate) fn judge_turn(s: Stream, output: usize) -> Answer
+    ensures { λ r. ⌜ outcomeOf r ≡ verdict (first (turnRows s output)) ⌝ }
+{
+    if !fits(1, s) {
+        return Answer::Refused(Refusal::State);
+    }
+    if output < Stream::TAG_LEN {
+        return Answer::Refused(Refusal::OutputShort);
+    }
+    Answer::Done(0)
+}
+
+// The refusals of write.
+pub(crate) fn judge_write(s: Stream, n: usize, output: usize) -> Answer
+    ensures { λ r. ⌜ outcomeOf r ≡ verdict (first (writeRows s n output)) ⌝ }
+{
+    if !fits(2, s) {
+        return Answer::Refused(Refusal::State);
+    }
+    if passes(s.total, s.written, n) {
+        return Answer::Refused(Refusal::TooLong);
+    }
+    if output < n {
+        return Answer::Refused(Refusal::OutputShort);
+    }
+    Answer::Done(0)
+}
+
+// Whether close is due: a state in stage 2 that has written all that was added.
+pub(crate) fn closes(s: Stream) -> bool
+    ensures { λ r. ⌜ r ≡ both (fits 2 s) (not (ltb (s .written) (s .total))) ⌝ }
+{
+    if !fits(2, s) {
+        return false;
+    }
+    if s.written < s.total {
+        return false;
+    }
+    true
+}
+
+// The refusals of feed.
+pub(crate) fn judge_feed(s: Stream, n: usize, output: usize) -> Answer
+    ensures { λ r. ⌜ outcomeOf r ≡ verdict (first (feedRows s n output)) ⌝ }
+{
+    if !fits(3, s) {
+        return Answer::Refused(Refusal::State);
+    }
+    if passes(Stream::LIMIT, s.total, n) {
+        return Answer::Refused(Refusal::TooLong);
+    }
+    if output < s.total + n {
+        return Answer::Refused(Refusal::OutputShort);
+    }
+    Answer::Done(0)
+}
+
+// The refusals of finish but for a forged string.
+pub(crate) fn judge_finish(s: Stream, output: usize) -> Answer
+    ensures { λ r. ⌜ outcomeOf r ≡ verdict (first (finishRows s output)) ⌝ }
+{
+    if !fits(3, s) {
+        return Answer::Refused(Refusal::State);
+    }
+    if output < s.total {
+        return Answer::Refused(Refusal::OutputShort);
+    }
+    Answer::Done(0)
+}

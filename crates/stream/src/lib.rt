@@ -1,0 +1,207 @@
+// Piecewise sealing and opening: a stream state goes in by value and comes back with the answer.
+mod hold;
+mod judge;
+mod work;
+
+ghost use mathlib.Core.List.{[]};
+ghost use Rattle.stream.specs.Steps.{Did, beginSealer, beginOpener, addStep, turnStep, writeStep, closeStep, feedStep, finishStep};
+use aes::RoundKeys;
+use octets::Block;
+use siv::Answer;
+use siv::Refusal;
+
+// The bytes that wait for the plaintext's end, and zeros behind them.
+pub type Tail = [u8; 31];
+
+// A stream state, of a sealer or an opener.
+pub struct Stream {
+    // 0 ended, 1 adding, 2 writing, 3 feeding.
+    pub stage: u8,
+    // The length of one half of the key.
+    pub width: usize,
+    // The round keys of the key's first half, which serves S2V.
+    pub mac_keys: RoundKeys,
+    // The round keys of its second half, which serves the counter.
+    pub ctr_keys: RoundKeys,
+    // L, the cipher of the zero block.
+    pub l: Block,
+    // D over the header strings.
+    pub d: Block,
+    // The CMAC chain over the plaintext before its tail.
+    pub chain: Block,
+    // V, the tag: zero in stage 1.
+    pub v: Block,
+    // How many bytes were added or fed.
+    pub total: usize,
+    // How many bytes were written: zero in stages 1 and 3.
+    pub written: usize,
+    // The plaintext's tail.
+    pub tail: Tail,
+}
+
+// What a call hands back.
+pub struct Step {
+    pub answer: Answer,
+    pub state: Stream,
+}
+
+impl Stream {
+    // The length of a tag.
+    pub const TAG_LEN: usize = 16;
+    // The longest plaintext.
+    pub const LIMIT: usize = 1048576;
+
+    // A sealer's state from a key and a header list.
+    pub fn begin_sealer(key: &[u8], header: &[u8], lens: &[u32]) -> Step
+        ensures { λ r. ⌜ Did (beginSealer (now (key .entry)) (now (header .entry)) (now (lens .entry))) r [] ⌝ }
+    {
+        let verdict = siv::judge::judge_header(key.len(), lens, header.len());
+        if let Answer::Refused(_) = verdict {
+            return Step {
+                answer: verdict,
+                state: work::ended(),
+            };
+        }
+        Step {
+            answer: Answer::Done(0),
+            state: work::start(key, header, lens, 1, [0u8; 16]),
+        }
+    }
+
+    // An opener's state from a key, a header list and a tag.
+    pub fn begin_opener(key: &[u8], header: &[u8], lens: &[u32], tag: &[u8]) -> Step
+        ensures { λ r. ⌜ Did (beginOpener (now (key .entry)) (now (header .entry)) (now (lens .entry)) (now (tag .entry))) r [] ⌝ }
+    {
+        let verdict = judge::judge_opener(key.len(), lens, header.len(), tag.len());
+        if let Answer::Refused(_) = verdict {
+            return Step {
+                answer: verdict,
+                state: work::ended(),
+            };
+        }
+        Step {
+            answer: Answer::Done(0),
+            state: work::start(key, header, lens, 3, octets::load(tag, 0)),
+        }
+    }
+
+    // Adds a piece of plaintext.
+    pub fn add(self, piece: &[u8]) -> Step
+        ensures { λ r. ⌜ Did (addStep self (now (piece .entry))) r [] ⌝ }
+    {
+        let verdict = judge::judge_add(self, piece.len());
+        if let Answer::Refused(_) = verdict {
+            return Step {
+                answer: verdict,
+                state: self,
+            };
+        }
+        Step {
+            answer: Answer::Done(0),
+            state: hold::absorb(self, piece),
+        }
+    }
+
+    // Ends the adding: V goes to the first 16 bytes of output.
+    pub fn turn(mut self, output: &mut [u8]) -> Step
+        ensures { λ r. ⌜ Did (turnStep self (now (output .entry))) r (now (output .exit)) ⌝ }
+    {
+        let verdict = judge::judge_turn(self, output.len());
+        if let Answer::Refused(_) = verdict {
+            return Step {
+                answer: verdict,
+                state: self,
+            };
+        }
+        let v = work::make_tag(self);
+        octets::store(output, 0, v);
+        self.stage = 2;
+        self.v = v;
+        Step {
+            answer: Answer::Done(16),
+            state: self,
+        }
+    }
+
+    // Writes a piece's ciphertext to the front of output.
+    pub fn write(mut self, piece: &[u8], output: &mut [u8]) -> Step
+        ensures { λ r. ⌜ Did (writeStep self (now (piece .entry)) (now (output .entry))) r (now (output .exit)) ⌝ }
+    {
+        let n = piece.len();
+        let verdict = judge::judge_write(self, n, output.len());
+        if let Answer::Refused(_) = verdict {
+            return Step {
+                answer: verdict,
+                state: self,
+            };
+        }
+        work::stream_at(self, self.written, piece, output, 0);
+        self.written = self.written + n;
+        Step {
+            answer: Answer::Done(n),
+            state: self,
+        }
+    }
+
+    // Ends a sealer that has written all that was added.
+    pub fn close(self) -> Step
+        ensures { λ r. ⌜ Did (closeStep self) r [] ⌝ }
+    {
+        if judge::closes(self) {
+            return Step {
+                answer: Answer::Done(0),
+                state: work::ended(),
+            };
+        }
+        Step {
+            answer: Answer::Refused(Refusal::State),
+            state: self,
+        }
+    }
+
+    // Feeds a piece of ciphertext: its plaintext, which nobody has approved yet, goes to output at offset total.
+    pub fn feed(self, piece: &[u8], output: &mut [u8]) -> Step
+        ensures { λ r. ⌜ Did (feedStep self (now (piece .entry)) (now (output .entry))) r (now (output .exit)) ⌝ }
+    {
+        let n = piece.len();
+        let verdict = judge::judge_feed(self, n, output.len());
+        if let Answer::Refused(_) = verdict {
+            return Step {
+                answer: verdict,
+                state: self,
+            };
+        }
+        let at = self.total;
+        work::stream_at(self, at, piece, output, at);
+        Step {
+            answer: Answer::Done(n),
+            state: hold::absorb(self, &output[at..at + n]),
+        }
+    }
+
+    // Gives the verdict on all that was fed: the plaintext in output is approved, or it is wiped.
+    pub fn finish(self, output: &mut [u8]) -> Step
+        ensures { λ r. ⌜ Did (finishStep self (now (output .entry))) r (now (output .exit)) ⌝ }
+    {
+        let verdict = judge::judge_finish(self, output.len());
+        if let Answer::Refused(_) = verdict {
+            return Step {
+                answer: verdict,
+                state: self,
+            };
+        }
+        let n = self.total;
+        let v = self.v;
+        if octets::same_block(work::make_tag(self), v) {
+            return Step {
+                answer: Answer::Done(n),
+                state: work::ended(),
+            };
+        }
+        octets::zero_at(output, 0, n);
+        Step {
+            answer: Answer::Refused(Refusal::Forged),
+            state: work::ended(),
+        }
+    }
+}
