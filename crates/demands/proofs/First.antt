@@ -1,11 +1,14 @@
--- The first demand holds for whole calls.
+-- The first demand holds.
 -- Assumes nothing.
-use mathlib.Core.Path.{_≡_, refl, ap, sym, _∙_}
+use mathlib.Core.Path.{_≡_, refl, ap, sym, subst, _∙_}
 use mathlib.Core.Bool.{Bool, true, false}
 use mathlib.Core.List.{List, [], _∷_}
 use Prim.Native.Nat.{ℕ, pred}
-use lib.ListN.{getD}
-use borrow.Author.Tests.{ne-eqb}
+use native.Mathlib.Omega.{arith}
+use lib.Dec.{eqb}
+use lib.ListN.{getD, replicate}
+use borrow.Author.Tests.{eqb-true, eq-eqb, ne-eqb}
+use Rattle.octets.specs.Octets.{put}
 use Rattle.siv.specs.declared.Refusal.{Refusal}
 use Rattle.siv.specs.declared.Refusal.the-variants.{KeyLength, HeaderCount, HeaderLengths, TooLong, SealedLength, OutputShort, ScratchShort, Forged, State, EmptyNonce}
 use Rattle.siv.specs.declared.Answer.{Answer}
@@ -13,7 +16,11 @@ use Rattle.siv.specs.declared.Answer.the-variants.{Done, Refused}
 use Rattle.siv.specs.Answer.{Outcome, Row, pickNumber, first, numberOf, outcomeOf}
 use Rattle.siv.specs.Calls.{sealNumber, sealCall, openNumber, openCall}
 use Rattle.siv.proofs.Laws.{refusal-number}
-use Rattle.demands.specs.First.{FirstDue, none, here, later, sealTable, openTable, FirstSeal, FirstOpen, First}
+use Rattle.stream.specs.declared.Stream.{Stream}
+use Rattle.stream.specs.State.{ended}
+use Rattle.stream.specs.Steps as steps
+use Rattle.stream.specs.Steps.{beginSealer, beginOpener, addStep, turnStep, writeStep, closeStep, feedStep, finishStep}
+use Rattle.demands.specs.First.{order, keeps, FirstDue, none, here, later, sealTable, openTable, FirstSeal, FirstOpen, FirstStep, finishTable, FirstFinish, First}
 
 -- `first` takes the first row that is due
 first-due : (rs : List Row) → FirstDue rs (first rs)
@@ -59,6 +66,60 @@ module _ (key bytes lens input output scratch : List ℕ) where
             (simp (e, off), simp (e, off, off8), simp (e, off, off8));
       }
 
+-- ---- piecewise calls
+
+module _ (n : ℕ) (done : steps.Result) (s : Stream) (output : List ℕ) (z : done .outcome .number ≡ 0) where
+  settled-number : steps.settle n done s output .outcome .number ≡ n
+  settled-number = go (eqb n 0) refl
+    where
+      go : (t : Bool) → eqb n 0 ≡ t → steps.pickResult t done (steps.refusal n s output) .outcome .number ≡ n
+      go true e = z ∙ sym (eqb-true n 0 e)
+      go false e = refl
+
+  settled-done : n ≡ 0 → steps.settle n done s output ≡ done
+  settled-done e = ap (λ (t : Bool). steps.pickResult t done (steps.refusal n s output)) (eq-eqb n 0 e)
+
+  settled-refused : (m : ℕ) → n ≡ m → (m ≡ 0 → ⊥) → steps.settle n done s output ≡ steps.refusal m s output
+  settled-refused m e k =
+      ap (λ (t : Bool). steps.pickResult t done (steps.refusal n s output)) (ne-eqb n 0 (λ p. k (sym e ∙ p))) ∙ ap (λ (k : ℕ). steps.refusal k s output) e
+
+-- a call whose table gives its number
+by-table : (table : List Row) (done : steps.Result) (s : Stream) (output : List ℕ) → keeps order table ≡ true → done .outcome .number ≡ 0
+    → FirstStep table (steps.settle (first table) done s output) done s output
+by-table table done s output k z =
+    let number : steps.settle (first table) done s output .outcome .number ≡ first table = settled-number (first table) done s output z in
+    record {
+      ordered = k;
+      first = subst (FirstDue table) (sym number) (first-due table);
+      done = λ e. settled-done (first table) done s output z (sym number ∙ e);
+      refused = λ m e. settled-refused (first table) done s output z m (sym number ∙ e);
+    }
+
+finishing : (s : Stream) (output : List ℕ) → FirstFinish s output
+unfolding finishStep
+finishing s output =
+    let n : ℕ = first (finishTable s output) in
+    let done : steps.Result = steps.success (s .total) ended output in
+    let number : finishStep s output .outcome .number ≡ n = go (eqb n 8) refl in
+    record {
+      ordered = refl;
+      first = subst (FirstDue (finishTable s output)) (sym number) (first-due (finishTable s output));
+      done = λ e.
+          let zero : n ≡ 0 = sym number ∙ e in
+          ap (λ (t : Bool). steps.pickResult t (forged s output) (steps.settle n done s output)) (ne-eqb n 8 (λ p. omega (arith, p, zero))) ∙ settled-done n done s output refl zero;
+      forged = λ e. ap (λ (t : Bool). steps.pickResult t (forged s output) (steps.settle n done s output)) (eq-eqb n 8 (sym number ∙ e));
+      refused = λ m e k k8.
+          ap (λ (t : Bool). steps.pickResult t (forged s output) (steps.settle n done s output)) (ne-eqb n 8 (λ p. k8 (sym e ∙ number ∙ p))) ∙ settled-refused n done s output refl m (sym number ∙ e) k;
+    }
+  where
+    forged : Stream → List ℕ → steps.Result
+    forged s output = steps.refusal 8 ended (put output 0 (replicate (s .total) 0))
+
+    go : (t : Bool) → eqb (first (finishTable s output)) 8 ≡ t
+        → steps.pickResult t (forged s output) (steps.settle (first (finishTable s output)) (steps.success (s .total) ended output) s output) .outcome .number ≡ first (finishTable s output)
+    go true e = sym (eqb-true (first (finishTable s output)) 8 e)
+    go false e = settled-number (first (finishTable s output)) (steps.success (s .total) ended output) s output refl
+
 -- a refusal by its number
 refusal : ℕ → Refusal
 refusal n =
@@ -85,4 +146,18 @@ told (Refused r) (Refused s) e =
     ap (λ (x : Refusal). Refused x) (sym (by-number r) ∙ ap (λ (o : Outcome). refusal (o .number)) e ∙ by-number s)
 
 pub demand : First
-demand = record { sealing = sealing; opening = opening; told = told }
+unfolding beginSealer beginOpener addStep turnStep writeStep closeStep feedStep
+demand =
+    record {
+      sealing = sealing;
+      opening = opening;
+      beginningSealer = λ key bytes lens. by-table _ _ _ _ refl refl;
+      beginningOpener = λ key bytes lens tag. by-table _ _ _ _ refl refl;
+      adding = λ s piece. by-table _ _ _ _ refl refl;
+      turning = λ s output. by-table _ _ _ _ refl refl;
+      writing = λ s piece output. by-table _ _ _ _ refl refl;
+      closing = λ s. by-table _ _ _ _ refl refl;
+      feeding = λ s piece output. by-table _ _ _ _ refl refl;
+      finishing = finishing;
+      told = told;
+    }

@@ -21,11 +21,11 @@ pub length-tag : (key : List ℕ) (ss : List (List ℕ)) (p : List ℕ) → leng
 unfolding tagOf s2v tag tagFrom cmacFrom aes
 length-tag key ss p = length-cipher _ _ _
 
-undo : (key v s : List ℕ) → streamed key v (streamed key v s) ≡ s
+pub undo : (key v s : List ℕ) → streamed key v (streamed key v s) ≡ s
 unfolding streamed
 undo key v s = xorStream-undo (aes (ctrKey key)) v 0 s
 
-length-streamed : (key v s : List ℕ) → length (streamed key v s) ≡ length s
+pub length-streamed : (key v s : List ℕ) → length (streamed key v s) ≡ length s
 unfolding streamed
 length-streamed key v s = length-xorStream (aes (ctrKey key)) v 0 s
 

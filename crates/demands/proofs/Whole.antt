@@ -16,7 +16,7 @@ use Rattle.siv.specs.Answer.{Outcome, Row, row, first, pickNumber, verdict}
 use Rattle.siv.specs.Siv.{sealed, opened, genuine}
 use Rattle.siv.specs.Calls.{isKeyLength, limit, scratchNeed, headerRows, sealRows, openRows, sealNumber, sealCall, openNumber, openCall}
 use Rattle.siv.proofs.Laws.{first-pass, first-stop, openJudged, OpenAdmits, open-admits, length-opened}
-use Rattle.demands.specs.Whole.{Admits, success, Gives, Second, SealsTo, ThirdWhole, Third}
+use Rattle.demands.specs.Whole.{Admits, success, Gives, Second, SealsTo, ThirdWhole}
 use Rattle.demands.proofs.Siv.{length-sealed, opened-sealed, genuine-sealed, sealed-opened}
 
 -- ---- sealing
@@ -49,7 +49,7 @@ module _ (key bytes lens y output scratch : List ℕ) where
   forgery = row 8 (not (genuine key (strings bytes lens) y)) ∷ []
 
   -- past the judgement the tag decides
-  by-tag : openJudged key bytes lens y output scratch ≡ 0 → openNumber key bytes lens y output scratch ≡ pickNumber (not (genuine key (strings bytes lens) y)) 8 0
+  pub by-tag : openJudged key bytes lens y output scratch ≡ 0 → openNumber key bytes lens y output scratch ≡ pickNumber (not (genuine key (strings bytes lens) y)) 8 0
   unfolding openNumber rows forgery
   by-tag j = first-pass rows forgery refl j
 
@@ -70,14 +70,14 @@ module _ (key bytes lens y output scratch : List ℕ) where
       go false p = absurd (omega arith)
 
   -- what opening gives where the tag agrees, and where it does not
-  open-gives : openJudged key bytes lens y output scratch ≡ 0 → genuine key (strings bytes lens) y ≡ true
+  pub open-gives : openJudged key bytes lens y output scratch ≡ 0 → genuine key (strings bytes lens) y ≡ true
       → Gives (openCall key bytes lens y output scratch) output (opened key y)
   unfolding openCall
   open-gives j g =
       let number : openNumber key bytes lens y output scratch ≡ 0 = by-tag j ∙ ap (λ (b : Bool). pickNumber (not b) 8 0) g in
       (simp number (ap success (sym (length-opened key y))), simp number)
 
-  open-wipes : openJudged key bytes lens y output scratch ≡ 0 → genuine key (strings bytes lens) y ≡ false
+  pub open-wipes : openJudged key bytes lens y output scratch ≡ 0 → genuine key (strings bytes lens) y ≡ false
       → (openCall key bytes lens y output scratch .outcome ≡ verdict 8) × (openCall key bytes lens y output scratch .output ≡ put output 0 (replicate (length y - 16) 0))
   unfolding openCall
   open-wipes j g =
@@ -85,7 +85,7 @@ module _ (key bytes lens y output scratch : List ℕ) where
       (simp number, simp number)
 
   module _ (a : Admits key bytes lens) (roomy : length y - 16 ≤ length output) (scratchy : scratchNeed (length y - 16) ≤ length scratch) where
-    judged : 16 ≤ length y → length y ≤ limit + 16 → openJudged key bytes lens y output scratch ≡ 0
+    pub judged : 16 ≤ length y → length y ≤ limit + 16 → openJudged key bytes lens y output scratch ≡ 0
     judged tagged limited =
         simp (
           a .keyed,
@@ -142,8 +142,9 @@ module _ (key bytes lens y output scratch : List ℕ) where
 
 -- ---- the demands
 
-pub third : Third
-third key bytes lens y output scratch a roomy scratchy =
+pub third-whole : (key bytes lens y output scratch : List ℕ) → Admits key bytes lens → length y - 16 ≤ length output → scratchNeed (length y - 16) ≤ length scratch
+    → ThirdWhole key bytes lens y output scratch
+third-whole key bytes lens y output scratch a roomy scratchy =
     record {
       accepts = whole-accepts key bytes lens y output scratch a roomy scratchy;
       accepted = whole-accepted key bytes lens y output scratch a roomy scratchy;
@@ -158,6 +159,6 @@ second =
       seals = seal-gives;
       opens = λ key bytes lens p output scratch a l r s.
           let long : length (sealed key (strings bytes lens) p) - 16 ≡ length p = omega (arith, length-sealed key (strings bytes lens) p) in
-          third key bytes lens (sealed key (strings bytes lens) p) output scratch a (subst (λ (n : ℕ). n ≤ length output) (sym long) r)
+          third-whole key bytes lens (sealed key (strings bytes lens) p) output scratch a (subst (λ (n : ℕ). n ≤ length output) (sym long) r)
           (subst (λ (n : ℕ). scratchNeed n ≤ length scratch) (sym long) s) .accepted p (l, refl);
     }

@@ -1,4 +1,4 @@
--- The first demand, for whole calls: every call gives the complete result, or the one refusal that is first due, with the buffers as document 01's table says.
+-- The first demand: every call gives the complete result, or the one refusal that is first due, with state and buffers as document 01's table says.
 -- Assumes nothing.
 use mathlib.Core.Path.{_≡_}
 use mathlib.Core.Bool.{Bool, true, false, not}
@@ -6,12 +6,16 @@ use mathlib.Core.List.{List, [], _∷_, _++_}
 use Prim.Native.Nat.{ℕ, _+_, _-_}
 use lib.Dec.{eqb}
 use lib.ListN.{length, replicate}
-use Rattle.octets.specs.Octets.{put}
+use Rattle.octets.specs.Octets.{put, same}
+use Rattle.cmac.specs.Cmac.{zeros}
 use Rattle.header.specs.Header.{strings}
 use Rattle.siv.specs.declared.Answer.{Answer}
 use Rattle.siv.specs.Answer.{Row, row, outcomeOf}
 use Rattle.siv.specs.Siv.{sealed, opened, genuine}
 use Rattle.siv.specs.Calls.{Result, scratchNeed, headerRows, sealRows, openRows, sealCall, openCall}
+use Rattle.stream.specs.declared.Stream.{Stream}
+use Rattle.stream.specs.State.{ended, start, added, tagOfState}
+use Rattle.stream.specs.Steps as steps
 
 -- document 01's order of refusals
 abbrev pub order : List ℕ
@@ -70,8 +74,44 @@ module _ (key bytes lens input output scratch : List ℕ) where
     pub refused : (n : ℕ) → openCall key bytes lens input output scratch .outcome .number ≡ n → (n ≡ 0 → ⊥) → (n ≡ 8 → ⊥)
         → Leaves (openCall key bytes lens input output scratch) n 0 output scratch
 
--- The first demand for whole calls; number and length tell an answer.
+-- ---- piecewise calls
+
+-- a call by its table: a refusal returns state and output as given
+pub record FirstStep (table : List Row) (result complete : steps.Result) (s : Stream) (output : List ℕ) : Type 0 where
+  pub ordered : keeps order table ≡ true
+  pub first : FirstDue table (result .outcome .number)
+  pub done : result .outcome .number ≡ 0 → result ≡ complete
+  pub refused : (n : ℕ) → result .outcome .number ≡ n → (n ≡ 0 → ⊥) → result ≡ steps.refusal n s output
+
+-- finish's rows
+abbrev pub finishTable : Stream → List ℕ → List Row
+finishTable s output = steps.finishRows s (length output) ++ (row 8 (not (same (tagOfState s) (s .v))) ∷ [])
+
+-- finish: 8 ends the state and wipes the output's first total bytes
+pub record FirstFinish (s : Stream) (output : List ℕ) : Type 0 where
+  pub ordered : keeps order (finishTable s output) ≡ true
+  pub first : FirstDue (finishTable s output) (steps.finishStep s output .outcome .number)
+  pub done : steps.finishStep s output .outcome .number ≡ 0 → steps.finishStep s output ≡ steps.success (s .total) ended output
+  pub forged : steps.finishStep s output .outcome .number ≡ 8 → steps.finishStep s output ≡ steps.refusal 8 ended (put output 0 (replicate (s .total) 0))
+  pub refused : (n : ℕ) → steps.finishStep s output .outcome .number ≡ n → (n ≡ 0 → ⊥) → (n ≡ 8 → ⊥) → steps.finishStep s output ≡ steps.refusal n s output
+
+-- The first demand, on all input bytes, lengths and stream states; number and length tell an answer.
 pub record First : Type 0 where
   pub sealing : (key bytes lens input output scratch : List ℕ) → FirstSeal key bytes lens input output scratch
   pub opening : (key bytes lens input output scratch : List ℕ) → FirstOpen key bytes lens input output scratch
+  pub beginningSealer : (key bytes lens : List ℕ)
+      → FirstStep (headerRows (length key) lens (length bytes)) (steps.beginSealer key bytes lens) (steps.success 0 (start key (strings bytes lens) 1 zeros) []) ended []
+  pub beginningOpener : (key bytes lens tag : List ℕ)
+      → FirstStep (steps.openerRows (length key) lens (length bytes) (length tag)) (steps.beginOpener key bytes lens tag) (steps.success 0 (start key (strings bytes lens) 3 tag) []) ended []
+  pub adding : (s : Stream) (piece : List ℕ) → FirstStep (steps.addRows s (length piece)) (steps.addStep s piece) (steps.success 0 (added s piece) []) s []
+  pub turning : (s : Stream) (output : List ℕ)
+      → FirstStep (steps.turnRows s (length output)) (steps.turnStep s output) (steps.success 16 (steps.turned s (tagOfState s)) (put output 0 (tagOfState s))) s output
+  pub writing : (s : Stream) (piece output : List ℕ)
+      → FirstStep (steps.writeRows s (length piece) (length output)) (steps.writeStep s piece output)
+      (steps.success (length piece) (steps.wrote s (length piece)) (put output 0 (steps.streamedAt s (s .written) piece))) s output
+  pub closing : (s : Stream) → FirstStep (steps.closeRows s) (steps.closeStep s) (steps.success 0 ended []) s []
+  pub feeding : (s : Stream) (piece output : List ℕ)
+      → FirstStep (steps.feedRows s (length piece) (length output)) (steps.feedStep s piece output)
+      (steps.success (length piece) (added s (steps.streamedAt s (s .total) piece)) (put output (s .total) (steps.streamedAt s (s .total) piece))) s output
+  pub finishing : (s : Stream) (output : List ℕ) → FirstFinish s output
   pub told : (a b : Answer) → outcomeOf a ≡ outcomeOf b → a ≡ b

@@ -48,7 +48,3 @@ pub record ThirdWhole (key bytes lens y output scratch : List ℕ) : Type 0 wher
   -- and if y has 16 to 1,048,592 bytes, it refuses with 8, and every output byte that a plaintext would have taken is zero
   pub wipes : ((P : List ℕ) → SealsTo key bytes lens y P → ⊥) → 16 ≤ length y → length y ≤ limit + 16
       → (openCall key bytes lens y output scratch .outcome ≡ verdict 8) × (openCall key bytes lens y output scratch .output ≡ put output 0 (replicate (length y - 16) 0))
-
-abbrev pub Third : Type 0
-Third = (key bytes lens y output scratch : List ℕ) → Admits key bytes lens → length y - 16 ≤ length output → scratchNeed (length y - 16) ≤ length scratch
-    → ThirdWhole key bytes lens y output scratch

@@ -1,0 +1,161 @@
+-- The state after a begin and any pieces, in one form: pieces join, the state fits its calls, and it gives the tag and the key stream of RFC 5297.
+-- Assumes nothing.
+use mathlib.Core.Path.{_≡_, refl, ap, ap₂, sym, _∙_}
+use mathlib.Core.Bool.{true}
+use mathlib.Core.List.{List, [], _∷_, _++_}
+use Prim.Native.Nat.{ℕ, zero, suc, _+_, _-_, _*_, _/_, _≤_}
+use native.Mathlib.Omega.{arith}
+use lib.ListN.{length, take, drop, replicate, length-append, length-take, length-drop, length-replicate}
+use lib.Seq.{drop-append-le, drop-drop, drop-at, length-take-le}
+use borrow.Author.Tests.{eq-eqb, le-ltb}
+use Rattle.octets.specs.Octets.{put}
+use Rattle.octets.proofs.Strings.{take-put, drop-put}
+use Rattle.aes.specs.Aes.{isWidth, aes}
+use Rattle.aes.specs.Cipher.{cipher}
+use Rattle.aes.specs.KeyExpansion.{roundKeys}
+use Rattle.cmac.specs.declared.Subkeys.{Subkeys}
+use Rattle.cmac.specs.Cmac.{zeros, chain, subkeys, zeroCipher}
+use Rattle.cmac.proofs.Laws.{chain-front, chain-add}
+use Rattle.s2v.specs.S2v.{tailLength, headerResult, tagFrom, tag, s2v}
+use Rattle.s2v.proofs.Laws.{Tail, tail, tag-tail}
+use Rattle.ctr.specs.Counter.{xorStream}
+use Rattle.ctr.proofs.Laws.{xorStream-append, length-xorStream}
+use Rattle.siv.specs.Siv.{macKey, ctrKey, tagOf, streamed}
+use Rattle.siv.specs.Calls.{isKeyLength, limit}
+use Rattle.siv.proofs.Laws.{KeyHalves, halves, aes-cipher}
+use Rattle.stream.specs.declared.Stream.{Stream}
+use Rattle.stream.specs.State.{start, allZero, writtenLimit, fits, held, tailOf, passedBlocks, added, tagOfState}
+use Rattle.stream.specs.Steps.{streamedAt}
+use Rattle.stream.proofs.Laws.{stateWith, Cut, cut, passed-more}
+use Rattle.aes.proofs.Widths.{length-cipher}
+use Rattle.demands.proofs.Siv.{length-streamed}
+
+with-same : (s : Stream) {c c′ : List ℕ} {n n′ : ℕ} {t t′ : List ℕ} → c ≡ c′ → n ≡ n′ → t ≡ t′ → stateWith s c n t ≡ stateWith s c′ n′ t′
+with-same s {c} {c′} {n} {n′} {t} {t′} p q r =
+    ap₂ (λ (x : List ℕ) (y : ℕ). stateWith s x y t) p q ∙ ap (stateWith s c′ n′) r
+
+zero-rest : (n m : ℕ) → allZero (drop n (replicate m 0)) ≡ true
+unfolding allZero
+zero-rest zero zero = refl
+zero-rest zero (suc m) = zero-rest zero m
+zero-rest (suc n) zero = refl
+zero-rest (suc n) (suc m) = zero-rest n m
+
+module _ (key : List ℕ) (ss : List (List ℕ)) where
+  E : List ℕ → List ℕ
+  E = cipher (length key / 2) (roundKeys (macKey key))
+
+  -- the state in a stage, with a tag, a count of written bytes and the plaintext P
+  abbrev pub stateOf : ℕ → List ℕ → ℕ → List ℕ → Stream
+  stateOf stage v written P =
+      record {
+        stage = stage;
+        width = length key / 2;
+        «mac_keys» = roundKeys (macKey key);
+        «ctr_keys» = roundKeys (ctrKey key);
+        l = zeroCipher (cipher (length key / 2) (roundKeys (macKey key)));
+        d = headerResult (cipher (length key / 2) (roundKeys (macKey key))) (subkeys (zeroCipher (cipher (length key / 2) (roundKeys (macKey key))))) ss;
+        chain = chain (cipher (length key / 2) (roundKeys (macKey key))) zeros P (passedBlocks (length P));
+        v = v;
+        total = length P;
+        written = written;
+        tail = tailOf (drop (16 * passedBlocks (length P)) P);
+      }
+
+  pub begin-state : (stage : ℕ) (v : List ℕ) → start key ss stage v ≡ stateOf stage v 0 []
+  unfolding start chain passedBlocks tailLength put
+  begin-state stage v = refl
+
+  module _ (stage : ℕ) (v : List ℕ) (written : ℕ) (A : List ℕ) where
+    before : ℕ
+    before = 16 * passedBlocks (length A)
+
+    long : length (drop before A) ≡ tailLength (length A)
+    unfolding before
+    long = let c : Cut (length A) = cut (length A) in length-drop before A ∙ omega arith
+
+    room : 0 + length (drop before A) ≤ length (replicate {A = ℕ} 31 0)
+    room = let c : Cut (length A) = cut (length A) in omega (arith, long, length-replicate {A = ℕ} 31 0)
+
+    -- the tail's used bytes are the plaintext's last
+    held-state : held (stateOf stage v written A) ≡ drop before A
+    unfolding before
+    held-state =
+        let count : tailLength (length A) ≡ 0 + length (drop before A) = omega (arith, long) in
+        ap (λ (n : ℕ). take n (tailOf (drop before A))) count ∙ take-put (replicate 31 0) 0 (drop before A) room
+
+    -- a piece more
+    pub join : (B : List ℕ) → added (stateOf stage v written A) B ≡ stateOf stage v written (A ++ B)
+    unfolding added E before
+    join B =
+        let p : ℕ = passedBlocks (length A) in
+        let n : ℕ = passedBlocks (length A + length B) - p in
+        let c : Cut (length A) = cut (length A) in
+        let total : length A + length B ≡ length (A ++ B) = sym (length-append A B) in
+        let more : p + n ≡ passedBlocks (length A + length B) = omega (arith, passed-more (length A) (length B)) in
+        let blocks : p + n ≡ passedBlocks (length (A ++ B)) = more ∙ ap passedBlocks total in
+        let text : held (stateOf stage v written A) ++ B ≡ drop (16 * p) (A ++ B) = ap (λ (l : List ℕ). l ++ B) held-state ∙ sym (drop-append-le (16 * p) A B (omega arith)) in
+        let place : 16 * p + 16 * n ≡ 16 * passedBlocks (length (A ++ B)) = omega arith in
+        with-same (stateOf stage v written A)
+        (ap₂ (λ (x t : List ℕ). chain E x t n) (sym (chain-front E zeros A B p (omega arith))) text ∙ sym (chain-add E zeros (A ++ B) p n) ∙ ap (chain E zeros (A ++ B)) blocks)
+        total
+        (ap (λ (t : List ℕ). tailOf (drop (16 * n) t)) text
+        ∙ ap tailOf (drop-drop (16 * n) (16 * p) (A ++ B) ∙ ap (λ (k : ℕ). drop k (A ++ B)) place))
+
+    unused : allZero (drop (tailLength (length A)) (stateOf stage v written A .tail)) ≡ true
+    unfolding before
+    unused =
+        let count : tailLength (length A) ≡ 0 + length (drop before A) = omega (arith, long) in
+        ap (λ (n : ℕ). allZero (drop n (tailOf (drop before A)))) count
+        ∙ ap allZero (drop-put (replicate 31 0) 0 (drop before A) room)
+        ∙ zero-rest (0 + length (drop before A)) 31
+
+  module _ (keyed : isKeyLength (length key) ≡ true) where
+    h : KeyHalves (length key)
+    h = halves (length key) keyed
+
+    -- the state is one for the calls that want its stage
+    pub fits-state : (stage : ℕ) (v : List ℕ) (written : ℕ) (P : List ℕ) → length P ≤ limit → written ≤ writtenLimit stage (length P) → fits stage (stateOf stage v written P) ≡ true
+    unfolding fits
+    fits-state stage v written P total most =
+        simp (
+          eq-eqb stage stage refl,
+          h .half,
+          le-ltb limit (length P) total,
+          le-ltb (writtenLimit stage (length P)) written most,
+        )
+        (unused stage v written P)
+
+    -- V of the state is V of its plaintext
+    pub tag-state : (stage : ℕ) (v : List ℕ) (written : ℕ) (P : List ℕ) → tagOfState (stateOf stage v written P) ≡ tagOf key ss P
+    unfolding tagOfState tagOf s2v passedBlocks before E
+    tag-state stage v written P =
+        let at : ℕ = length P - tailLength (length P) in
+        let t : Tail (length P) = tail (length P) in
+        let whole : 16 * (at / 16) ≡ at = t .blocks in
+        let k : Subkeys = subkeys (zeroCipher E) in
+        let d : List ℕ = headerResult E k ss in
+        let front : length key / 2 ≡ length (macKey key) = simp length-take (omega arith) in
+        ap (tagFrom E k d (chain E zeros P (at / 16))) (held-state stage v written P ∙ ap (λ (n : ℕ). drop n P) whole)
+        ∙ sym (tag-tail E k d P at refl)
+        ∙ ap (λ (F : List ℕ → List ℕ). s2v F ss P) (aes-cipher (macKey key) front refl)
+
+    -- the state's key stream is that of its tag
+    pub stream-state : (stage : ℕ) (v : List ℕ) (written : ℕ) (P : List ℕ) (place : ℕ) (s : List ℕ)
+        → streamedAt (stateOf stage v written P) place s ≡ xorStream (aes (ctrKey key)) v place s
+    unfolding streamedAt
+    stream-state stage v written P place s =
+        let k : KeyHalves (length key) = h in
+        let back : length key / 2 ≡ length (ctrKey key) = simp length-drop (omega arith) in
+        ap (λ (F : List ℕ → List ℕ). xorStream F v place s) (aes-cipher (ctrKey key) back refl)
+
+-- ---- the key stream over a string cut in two
+
+pub streamed-append : (key v a b : List ℕ) → streamed key v (a ++ b) ≡ streamed key v a ++ xorStream (aes (ctrKey key)) v (length a) b
+unfolding streamed aes
+streamed-append key v a b =
+    let place : 0 + length a ≡ length a = omega arith in
+    xorStream-append (aes (ctrKey key)) (λ x. length-cipher _ _ _) v 0 a b ∙ ap (λ (n : ℕ). streamed key v a ++ xorStream (aes (ctrKey key)) v n b) place
+
+pub streamed-rest : (key v a b : List ℕ) → drop (length a) (streamed key v (a ++ b)) ≡ xorStream (aes (ctrKey key)) v (length a) b
+streamed-rest key v a b = ap (drop (length a)) (streamed-append key v a b) ∙ drop-at (streamed key v a) (xorStream (aes (ctrKey key)) v (length a) b) (length a) (length-streamed key v a)

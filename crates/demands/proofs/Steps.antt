@@ -1,0 +1,399 @@
+-- One call on a state that the model knows: it gives what the model says, and the state after it is again one that the model knows.
+-- Assumes nothing.
+use mathlib.Core.Path.{_≡_, refl, ap, ap₂, sym, subst, _∙_}
+use mathlib.Core.Bool.{Bool, true, false, not}
+use mathlib.Core.List.{List, [], _∷_, _++_}
+use Prim.Native.Nat.{ℕ, _+_, _-_, _≤_}
+use native.Mathlib.Omega.{arith}
+use lib.Dec.{eqb, ltb}
+use lib.ListN.{length, take, drop, replicate, length-append, length-replicate}
+use lib.Seq.{take-at, drop-at}
+use borrow.Author.Tests.{ltb-false, eq-eqb, le-ltb}
+use Rattle.octets.specs.Octets.{put, both, same}
+use Rattle.octets.proofs.Strings.{length-put, put-put}
+use Rattle.aes.specs.Aes.{aes}
+use Rattle.cmac.specs.Cmac.{zeros, pickString}
+use Rattle.header.specs.Header.{strings}
+use Rattle.ctr.specs.Counter.{xorStream}
+use Rattle.siv.specs.Answer.{Outcome, Row, row, pickNumber, first, verdict}
+use Rattle.siv.specs.Siv.{ctrKey, tagOf, streamed, opened, genuine}
+use Rattle.siv.specs.Calls.{either, limit, scratchNeed, openNumber}
+use Rattle.siv.proofs.Laws.{put-over}
+use Rattle.stream.specs.declared.Stream.{Stream}
+use Rattle.stream.specs.State.{ended, fits, added, tagOfState}
+use Rattle.stream.specs.Steps.{Result, success, refusal, pickResult, settle, feedRows, turned, wrote, streamedAt, addStep, turnStep, writeStep, closeStep, feedStep, finishStep}
+use Rattle.demands.specs.Whole.{Admits}
+use Rattle.demands.specs.Run.{Begin, sealer, opener, Call, add, turn, write, close, feed, finish, call, sharedAfter, Entry}
+use Rattle.demands.specs.Model.{Book, wants, After, pickAfter, sealTag, accepts, shown, outputBefore, outputAfter, bookAfter, countAfter, modelNumber, modelStep}
+use Rattle.demands.proofs.Siv.{length-streamed}
+use Rattle.demands.proofs.Whole.{by-tag, judged}
+use Rattle.demands.proofs.Pieces.{stateOf, join, fits-state, tag-state, stream-state, streamed-append, streamed-rest}
+
+-- ---- a call in a stage that it does not want
+
+-- the output lent to a call
+abbrev lent : List ℕ → Call → List ℕ
+lent shared (add piece) = []
+lent shared (turn output) = output
+lent shared (write piece output) = output
+lent shared close = []
+lent shared (feed piece) = shared
+lent shared finish = shared
+
+misfit : (wanted : ℕ) (s : Stream) → eqb (s .stage) wanted ≡ false → fits wanted s ≡ false
+unfolding fits
+misfit wanted s e = simp e
+
+call-wrong : (s : Stream) (o : List ℕ) (c : Call) → eqb (s .stage) (wants c) ≡ false → call s o c ≡ refusal 9 s (lent o c)
+unfolding addStep turnStep writeStep closeStep feedStep finishStep
+call-wrong s o (add piece) e = simp (misfit 1 s e)
+call-wrong s o (turn output) e = simp (misfit 1 s e)
+call-wrong s o (write piece output) e = simp (misfit 2 s e)
+call-wrong s o close e = simp (misfit 2 s e)
+call-wrong s o (feed piece) e = simp (misfit 3 s e)
+call-wrong s o finish e = simp (misfit 3 s e)
+
+unchanged : (o : List ℕ) (c : Call) → sharedAfter o c (lent o c) ≡ o
+unchanged o (add piece) = refl
+unchanged o (turn output) = refl
+unchanged o (write piece output) = refl
+unchanged o close = refl
+unchanged o (feed piece) = refl
+unchanged o finish = refl
+
+-- no call wants stage 0
+pub unwanted : (c : Call) → eqb 0 (wants c) ≡ false
+unwanted (add piece) = refl
+unwanted (turn output) = refl
+unwanted (write piece output) = refl
+unwanted close = refl
+unwanted (feed piece) = refl
+unwanted finish = refl
+
+abbrev pub book : ℕ → List ℕ → List ℕ → Book
+book stage A W = record { stage = stage; A = A; W = W }
+
+-- a state and a shared output that the model knows by its book
+pub data Known (key bytes lens shared : List ℕ) : Begin → Book → Stream → List ℕ → Type 0 where
+  adding : (A : List ℕ) → length A ≤ limit → Known key bytes lens shared sealer (book 1 A []) (stateOf key (strings bytes lens) 1 zeros 0 A) shared
+  writing : (A W : List ℕ) → length A ≤ limit → length W ≤ length A
+      → Known key bytes lens shared sealer (book 2 A W) (stateOf key (strings bytes lens) 2 (tagOf key (strings bytes lens) A) (length W) A) shared
+  closed : (A W : List ℕ) → Known key bytes lens shared sealer (book 0 A W) ended shared
+  feeding : (T A : List ℕ) → length T ≡ 16 → length A ≤ limit → length A ≤ length shared
+      → Known key bytes lens shared (opener T) (book 3 A []) (stateOf key (strings bytes lens) 3 T 0 (streamed key T A)) (put shared 0 (streamed key T A))
+  finished : (T A o : List ℕ) → o ≡ shown key bytes lens (opener T) shared (book 0 A []) → Known key bytes lens shared (opener T) (book 0 A []) ended o
+
+module _ (key bytes lens shared : List ℕ) (a : Admits key bytes lens) where
+  ss : List (List ℕ)
+  ss = strings bytes lens
+
+  -- the call gives what the model says, and leaves what the model knows
+  pub record Steps (begin : Begin) (b : Book) (s : Stream) (o : List ℕ) (c : Call) : Type 0 where
+    pub entry : record { outcome = call s o c .outcome; output = call s o c .output } ≡ modelStep key bytes lens begin shared b c .entry
+    pub next : Known key bytes lens shared begin (modelStep key bytes lens begin shared b c .book) (call s o c .state) (sharedAfter o c (call s o c .output))
+
+  -- from what each of the two comes to
+  steps : (begin : Begin) (b : Book) (s : Stream) (o : List ℕ) (c : Call) (r : Result) (m : After) → call s o c ≡ r → modelStep key bytes lens begin shared b c ≡ m
+      → record { outcome = r .outcome; output = r .output } ≡ m .entry → Known key bytes lens shared begin (m .book) (r .state) (sharedAfter o c (r .output))
+      → Steps begin b s o c
+  steps begin b s o c r m p q e k =
+      record {
+        entry = ap (λ (x : Result). record { outcome = x .outcome; output = x .output }) p ∙ e ∙ ap (λ (x : After). x .entry) (sym q);
+        next =
+            subst (λ (x : After). Known key bytes lens shared begin (x .book) (call s o c .state) (sharedAfter o c (call s o c .output))) (sym q)
+            (subst (λ (x : Result). Known key bytes lens shared begin (m .book) (x .state) (sharedAfter o c (x .output))) (sym p) k);
+      }
+
+  -- the model's refusal, and what it says of success and of 8
+  abbrev pub refusedAfter : Begin → Book → Call → ℕ → After
+  refusedAfter begin b c n = record { book = b; entry = record { outcome = verdict n; output = outputBefore key bytes lens begin shared b c } }
+
+  abbrev pub doneAfter : Begin → Book → Call → ℕ → After
+  doneAfter begin b c n =
+      record {
+        book = bookAfter key bytes lens begin shared b c;
+        entry =
+            record {
+              outcome = record { number = n; count = pickNumber (eqb n 0) (countAfter key bytes lens begin shared b c) 0 };
+              output = outputAfter key bytes lens begin shared b c;
+            };
+      }
+
+  pub model-wrong : (begin : Begin) (b : Book) (c : Call) → eqb (b .stage) (wants c) ≡ false
+      → modelStep key bytes lens begin shared b c ≡ refusedAfter begin b c 9
+  unfolding modelStep
+  model-wrong begin b c e = simp e
+
+  pub known-shown : (begin : Begin) (b : Book) (s : Stream) (o : List ℕ) → Known key bytes lens shared begin b s o → o ≡ shown key bytes lens begin shared b
+  known-shown begin b s o (adding A l) = refl
+  known-shown begin b s o (writing A W l w) = refl
+  known-shown begin b s o (closed A W) = refl
+  known-shown begin b s o (feeding T A t l r) = refl
+  known-shown begin b s o (finished T A _ e) = e
+
+  known-stage : (begin : Begin) (b : Book) (s : Stream) (o : List ℕ) → Known key bytes lens shared begin b s o → s .stage ≡ b .stage
+  known-stage begin b s o (adding A l) = refl
+  known-stage begin b s o (writing A W l w) = refl
+  known-stage begin b s o (closed A W) = refl
+  known-stage begin b s o (feeding T A t l r) = refl
+  known-stage begin b s o (finished T A _ e) = refl
+
+  lent-before : (begin : Begin) (b : Book) (o : List ℕ) (c : Call) → o ≡ shown key bytes lens begin shared b → lent o c ≡ outputBefore key bytes lens begin shared b c
+  lent-before begin b o (add piece) e = refl
+  lent-before begin b o (turn output) e = refl
+  lent-before begin b o (write piece output) e = refl
+  lent-before begin b o close e = refl
+  lent-before begin b o (feed piece) e = e
+  lent-before begin b o finish e = e
+
+  wrong : (begin : Begin) (b : Book) (s : Stream) (o : List ℕ) (c : Call) → Known key bytes lens shared begin b s o → eqb (b .stage) (wants c) ≡ false → Steps begin b s o c
+  wrong begin b s o c k e =
+      steps begin b s o c (refusal 9 s (lent o c)) (refusedAfter begin b c 9) (call-wrong s o c (ap (λ (n : ℕ). eqb n (wants c)) (known-stage begin b s o k) ∙ e)) (model-wrong begin b c e)
+      (ap (λ (l : List ℕ). record { outcome = verdict 9; output = l }) (lent-before begin b o c (known-shown begin b s o k)))
+      (subst (Known key bytes lens shared begin b s) (sym (unchanged o c)) k)
+
+  -- ---- the sealer's calls in the stages that they want
+
+  module _ (A : List ℕ) (within : length A ≤ limit) where
+    S : Stream
+    S = stateOf key ss 1 zeros 0 A
+
+    b : Book
+    b = book 1 A []
+
+    fitting : fits 1 S ≡ true
+    unfolding S
+    fitting = fits-state key ss (a .keyed) 1 zeros 0 A within (omega arith)
+
+    add-step : (piece : List ℕ) → Steps sealer (book 1 A []) (stateOf key (strings bytes lens) 1 zeros 0 A) shared (add piece)
+    unfolding addStep modelStep S ss b
+    add-step piece = go (ltb limit (length A + length piece)) refl
+      where
+        total : length (A ++ piece) ≡ length A + length piece
+        total = length-append A piece
+
+        go : (t : Bool) → ltb limit (length A + length piece) ≡ t → Steps sealer (book 1 A []) (stateOf key (strings bytes lens) 1 zeros 0 A) shared (add piece)
+        go true e = steps sealer b S shared (add piece) (refusal 4 S []) (refusedAfter sealer b (add piece) 4) (simp (fitting, e)) (simp (total, e)) refl (adding A within)
+        go false e =
+            steps sealer b S shared (add piece) (success 0 (stateOf key ss 1 zeros 0 (A ++ piece)) []) (doneAfter sealer b (add piece) 0)
+            (simp (fitting, e) (ap (λ (s : Stream). success 0 s []) (join key ss 1 zeros 0 A piece))) (simp (total, e)) refl
+            (adding (A ++ piece) (omega (arith, total, ltb-false limit (length A + length piece) e)))
+
+    turn-step : (output : List ℕ) → Steps sealer (book 1 A []) (stateOf key (strings bytes lens) 1 zeros 0 A) shared (turn output)
+    unfolding turnStep modelStep S ss b
+    turn-step output = go (ltb (length output) 16) refl
+      where
+        go : (t : Bool) → ltb (length output) 16 ≡ t → Steps sealer (book 1 A []) (stateOf key (strings bytes lens) 1 zeros 0 A) shared (turn output)
+        go true e = steps sealer b S shared (turn output) (refusal 6 S output) (refusedAfter sealer b (turn output) 6) (simp (fitting, e)) (simp e) refl (adding A within)
+        go false e =
+            let v : List ℕ = tagOf key ss A in
+            steps sealer b S shared (turn output) (success 16 (turned S v) (put output 0 v)) (doneAfter sealer b (turn output) 0)
+            (simp (fitting, e) (ap (λ (x : List ℕ). success 16 (turned S x) (put output 0 x)) (tag-state key ss (a .keyed) 1 zeros 0 A))) (simp e) refl
+            (writing A [] within (omega arith))
+
+  module _ (A W : List ℕ) (within : length A ≤ limit) (shorter : length W ≤ length A) where
+    v : List ℕ
+    v = tagOf key ss A
+
+    SW : Stream
+    SW = stateOf key ss 2 v (length W) A
+
+    bW : Book
+    bW = book 2 A W
+
+    fittingW : fits 2 SW ≡ true
+    unfolding SW
+    fittingW = fits-state key ss (a .keyed) 2 v (length W) A within shorter
+
+    write-step : (piece output : List ℕ)
+        → Steps sealer (book 2 A W) (stateOf key (strings bytes lens) 2 (tagOf key (strings bytes lens) A) (length W) A) shared (write piece output)
+    unfolding writeStep modelStep SW ss bW v
+    write-step piece output = go (ltb (length A) (length W + length piece)) refl (ltb (length output) (length piece)) refl
+      where
+        total : length (W ++ piece) ≡ length W + length piece
+        total = length-append W piece
+
+        text : streamedAt SW (length W) piece ≡ drop (length W) (streamed key v (W ++ piece))
+        text = stream-state key ss (a .keyed) 2 v (length W) A (length W) piece ∙ sym (streamed-rest key v W piece)
+
+        go : (t : Bool) → ltb (length A) (length W + length piece) ≡ t → (u : Bool) → ltb (length output) (length piece) ≡ u
+            → Steps sealer (book 2 A W) (stateOf key (strings bytes lens) 2 (tagOf key (strings bytes lens) A) (length W) A) shared (write piece output)
+        go true e u f =
+            steps sealer bW SW shared (write piece output) (refusal 4 SW output) (refusedAfter sealer bW (write piece output) 4) (simp (fittingW, e)) (simp (total, e)) refl
+            (writing A W within shorter)
+        go false e true f =
+            steps sealer bW SW shared (write piece output) (refusal 6 SW output) (refusedAfter sealer bW (write piece output) 6) (simp (fittingW, e, f)) (simp (total, e, f)) refl
+            (writing A W within shorter)
+        go false e false f =
+            let last : List ℕ = put output 0 (drop (length W) (streamed key v (W ++ piece))) in
+            steps sealer bW SW shared (write piece output) (success (length piece) (stateOf key ss 2 v (length (W ++ piece)) A) last) (doneAfter sealer bW (write piece output) 0)
+            (simp (fittingW, e, f) (ap₂ (λ (n : ℕ) (x : List ℕ). success (length piece) (stateOf key ss 2 v n A) (put output 0 x)) (sym total) text)) (simp (total, e, f)) refl
+            (writing A (W ++ piece) within (omega (arith, total, ltb-false (length A) (length W + length piece) e)))
+
+    close-step : Steps sealer (book 2 A W) (stateOf key (strings bytes lens) 2 (tagOf key (strings bytes lens) A) (length W) A) shared close
+    unfolding closeStep modelStep SW ss bW v
+    close-step = go (ltb (length W) (length A)) refl
+      where
+        go : (t : Bool) → ltb (length W) (length A) ≡ t → Steps sealer (book 2 A W) (stateOf key (strings bytes lens) 2 (tagOf key (strings bytes lens) A) (length W) A) shared close
+        go true e = steps sealer bW SW shared close (refusal 9 SW []) (refusedAfter sealer bW close 9) (simp (fittingW, e)) (simp e) refl (writing A W within shorter)
+        go false e = steps sealer bW SW shared close (success 0 ended []) (doneAfter sealer bW close 0) (simp (fittingW, e)) (simp e) refl (closed A W)
+
+  -- ---- the opener's calls in the stage that they want
+
+  module _ (T A : List ℕ) (tagged : length T ≡ 16) (within : length A ≤ limit) (roomy : length A ≤ length shared) where
+    P : List ℕ
+    P = streamed key T A
+
+    SF : Stream
+    SF = stateOf key ss 3 T 0 P
+
+    bF : Book
+    bF = book 3 A []
+
+    o : List ℕ
+    o = put shared 0 P
+
+    long : length P ≡ length A
+    unfolding P
+    long = length-streamed key T A
+
+    longer : length o ≡ length shared
+    unfolding o
+    longer = length-put shared 0 P (omega (arith, long))
+
+    fittingF : fits 3 SF ≡ true
+    unfolding SF
+    fittingF = fits-state key ss (a .keyed) 3 T 0 P (omega (arith, long)) (omega arith)
+
+    feed-step : (piece : List ℕ) → Steps (opener T) (book 3 A []) (stateOf key (strings bytes lens) 3 T 0 (streamed key T A)) (put shared 0 (streamed key T A)) (feed piece)
+    unfolding feedStep modelStep SF ss bF P o
+    feed-step piece = go (ltb limit (length A + length piece)) refl (ltb (length shared) (length A + length piece)) refl
+      where
+        total : length (A ++ piece) ≡ length A + length piece
+        total = length-append A piece
+
+        text : streamedAt SF (length P) piece ≡ xorStream (aes (ctrKey key)) T (length A) piece
+        text = stream-state key ss (a .keyed) 3 T 0 P (length P) piece ∙ ap (λ (n : ℕ). xorStream (aes (ctrKey key)) T n piece) long
+
+        joined : P ++ streamedAt SF (length P) piece ≡ streamed key T (A ++ piece)
+        joined = ap (λ (x : List ℕ). P ++ x) text ∙ sym (streamed-append key T A piece)
+
+        state : added SF (streamedAt SF (length P) piece) ≡ stateOf key ss 3 T 0 (streamed key T (A ++ piece))
+        state = join key ss 3 T 0 P (streamedAt SF (length P) piece) ∙ ap (stateOf key ss 3 T 0) joined
+
+        last : put o (length P) (streamedAt SF (length P) piece) ≡ put shared 0 (streamed key T (A ++ piece))
+        last =
+            let place : length P ≡ 0 + length P = omega arith in
+            ap (λ (n : ℕ). put o n (streamedAt SF (length P) piece)) place
+            ∙ put-put shared 0 P (streamedAt SF (length P) piece) (omega (arith, long))
+            ∙ ap (put shared 0) joined
+
+        number : first (feedRows SF (length piece) (length o)) ≡ pickNumber (ltb limit (length A + length piece)) 4 (pickNumber (ltb (length shared) (length A + length piece)) 6 0)
+        number =
+            ap (λ (t : Bool). pickNumber (not t) 9 (pickNumber (ltb limit (length P + length piece)) 4 (pickNumber (ltb (length o) (length P + length piece)) 6 0))) fittingF
+            ∙ ap₂ (λ (n m : ℕ). pickNumber (ltb limit (n + length piece)) 4 (pickNumber (ltb m (n + length piece)) 6 0)) long longer
+
+        settled : (n : ℕ) → pickNumber (ltb limit (length A + length piece)) 4 (pickNumber (ltb (length shared) (length A + length piece)) 6 0) ≡ n
+            → call SF o (feed piece) ≡ settle n (success (length piece) (stateOf key ss 3 T 0 (streamed key T (A ++ piece))) (put shared 0 (streamed key T (A ++ piece)))) SF o
+        settled n e =
+            ap₂ (λ (k : ℕ) (r : Result). settle k r SF o) (number ∙ e) (ap₂ (λ (s : Stream) (x : List ℕ). success (length piece) s x) state last)
+
+        go : (t : Bool) → ltb limit (length A + length piece) ≡ t → (u : Bool) → ltb (length shared) (length A + length piece) ≡ u
+            → Steps (opener T) (book 3 A []) (stateOf key (strings bytes lens) 3 T 0 (streamed key T A)) (put shared 0 (streamed key T A)) (feed piece)
+        go true e u f =
+            steps (opener T) bF SF o (feed piece) (refusal 4 SF o) (refusedAfter (opener T) bF (feed piece) 4) (settled 4 (simp e)) (simp (total, e)) refl
+            (feeding T A tagged within roomy)
+        go false e true f =
+            steps (opener T) bF SF o (feed piece) (refusal 6 SF o) (refusedAfter (opener T) bF (feed piece) 6) (settled 6 (simp (e, f))) (simp (total, e, f)) refl
+            (feeding T A tagged within roomy)
+        go false e false f =
+            steps (opener T) bF SF o (feed piece)
+            (success (length piece) (stateOf key ss 3 T 0 (streamed key T (A ++ piece))) (put shared 0 (streamed key T (A ++ piece))))
+            (doneAfter (opener T) bF (feed piece) 0) (settled 0 (simp (e, f))) (simp (total, e, f)) refl
+            (feeding T (A ++ piece) tagged (omega (arith, total, ltb-false limit (length A + length piece) e)) (omega (arith, total, ltb-false (length shared) (length A + length piece) f)))
+
+    y : List ℕ
+    y = T ++ A
+
+    front : take 16 y ≡ T
+    unfolding y
+    front = take-at T A 16 tagged
+
+    opened-fed : opened key (T ++ A) ≡ P
+    unfolding opened y P
+    opened-fed = ap₂ (streamed key) front (drop-at T A 16 tagged)
+
+    -- the state's verdict is whole opening's
+    genuine-fed : same (tagOfState SF) T ≡ genuine key ss (T ++ A)
+    unfolding genuine SF y
+    genuine-fed = ap₂ same (tag-state key ss (a .keyed) 3 T 0 P ∙ ap (tagOf key ss) (sym opened-fed)) (sym front)
+
+    pub accepts-genuine : accepts key bytes lens (opener T) shared T A ≡ genuine key (strings bytes lens) (T ++ A)
+    unfolding accepts
+    accepts-genuine =
+        let room : List ℕ = replicate (length A) 0 in
+        let scratch : List ℕ = replicate (scratchNeed (length A)) 0 in
+        let count : length (T ++ A) ≡ 16 + length A = length-append T A ∙ omega arith in
+        let number = by-tag key bytes lens (T ++ A) room scratch
+        (judged key bytes lens (T ++ A) room scratch a
+        (omega (arith, count, length-replicate {A = ℕ} (length A) 0))
+        (omega (arith, count, length-replicate {A = ℕ} (scratchNeed (length A)) 0))
+        (omega (arith, count))
+        (omega (arith, count))) in
+        ap (λ (n : ℕ). eqb n 0) number ∙ go (genuine key (strings bytes lens) (T ++ A))
+      where
+        go : (t : Bool) → eqb (pickNumber (not t) 8 0) 0 ≡ t
+        go true = refl
+        go false = refl
+
+    wiped : put o 0 (replicate (length P) 0) ≡ put shared 0 (replicate (length A) 0)
+    unfolding o
+    wiped =
+        put-over shared P (replicate (length P) 0) (omega (arith, length-replicate {A = ℕ} (length P) 0))
+        ∙ ap (λ (n : ℕ). put shared 0 (replicate n 0)) long
+
+    enough : ltb (length o) (length P) ≡ false
+    enough = le-ltb (length o) (length P) (omega (arith, long, longer))
+
+    finish-step : Steps (opener T) (book 3 A []) (stateOf key (strings bytes lens) 3 T 0 (streamed key T A)) (put shared 0 (streamed key T A)) finish
+    unfolding finishStep modelStep SF ss bF P o
+    finish-step = go (genuine key (strings bytes lens) (T ++ A)) genuine-fed accepts-genuine
+      where
+        go : (t : Bool) → same (tagOfState SF) T ≡ t → accepts key bytes lens (opener T) shared T A ≡ t
+            → Steps (opener T) (book 3 A []) (stateOf key (strings bytes lens) 3 T 0 (streamed key T A)) (put shared 0 (streamed key T A)) finish
+        go true g h =
+            let last : o ≡ shown key bytes lens (opener T) shared (book 0 A []) =
+            ap (put shared 0) (sym (ap (λ (t : Bool). pickString t (opened key (T ++ A)) (replicate (length A) 0)) h ∙ opened-fed)) in
+            steps (opener T) bF SF o finish (success (length P) ended o) (doneAfter (opener T) bF finish 0) (simp (fittingF, enough, g)) (simp h)
+            (ap₂ (λ (n : ℕ) (x : List ℕ). record { outcome = record { number = 0; count = n }; output = x }) long last)
+            (finished T A o last)
+        go false g h =
+            let last : put o 0 (replicate (length P) 0) ≡ shown key bytes lens (opener T) shared (book 0 A []) =
+            wiped ∙ ap (put shared 0) (sym (ap (λ (t : Bool). pickString t (opened key (T ++ A)) (replicate (length A) 0)) h)) in
+            steps (opener T) bF SF o finish (refusal 8 ended (put o 0 (replicate (length P) 0))) (doneAfter (opener T) bF finish 8) (simp (fittingF, enough, g)) (simp h)
+            (ap (λ (x : List ℕ). record { outcome = verdict 8; output = x }) last)
+            (finished T A (put o 0 (replicate (length P) 0)) last)
+
+  -- ---- any call
+
+  pub step : (begin : Begin) (b : Book) (s : Stream) (o : List ℕ) (c : Call) → Known key bytes lens shared begin b s o → Steps begin b s o c
+  step begin b s o (add piece) (adding A l) = add-step A l piece
+  step begin b s o (turn output) (adding A l) = turn-step A l output
+  step begin b s o (write piece output) (adding A l) = wrong _ _ _ _ (write piece output) (adding A l) refl
+  step begin b s o close (adding A l) = wrong _ _ _ _ close (adding A l) refl
+  step begin b s o (feed piece) (adding A l) = wrong _ _ _ _ (feed piece) (adding A l) refl
+  step begin b s o finish (adding A l) = wrong _ _ _ _ finish (adding A l) refl
+  step begin b s o (add piece) (writing A W l w) = wrong _ _ _ _ (add piece) (writing A W l w) refl
+  step begin b s o (turn output) (writing A W l w) = wrong _ _ _ _ (turn output) (writing A W l w) refl
+  step begin b s o (write piece output) (writing A W l w) = write-step A W l w piece output
+  step begin b s o close (writing A W l w) = close-step A W l w
+  step begin b s o (feed piece) (writing A W l w) = wrong _ _ _ _ (feed piece) (writing A W l w) refl
+  step begin b s o finish (writing A W l w) = wrong _ _ _ _ finish (writing A W l w) refl
+  step begin b s o (add piece) (feeding T A t l r) = wrong _ _ _ _ (add piece) (feeding T A t l r) refl
+  step begin b s o (turn output) (feeding T A t l r) = wrong _ _ _ _ (turn output) (feeding T A t l r) refl
+  step begin b s o (write piece output) (feeding T A t l r) = wrong _ _ _ _ (write piece output) (feeding T A t l r) refl
+  step begin b s o close (feeding T A t l r) = wrong _ _ _ _ close (feeding T A t l r) refl
+  step begin b s o (feed piece) (feeding T A t l r) = feed-step T A t l r piece
+  step begin b s o finish (feeding T A t l r) = finish-step T A t l r
+  step begin b s o c (closed A W) = wrong _ _ _ _ c (closed A W) (unwanted c)
+  step begin b s o c (finished T A _ e) = wrong _ _ _ _ c (finished T A _ e) (unwanted c)

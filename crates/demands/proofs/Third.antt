@@ -1,0 +1,399 @@
+-- The third demand holds: by induction over the list of calls, from one relation between a state and the model's book.
+-- Assumes nothing.
+use mathlib.Core.Path.{_≡_, refl, ap, ap₂, sym, subst, _∙_}
+use mathlib.Core.Bool.{Bool, true, false, not, true≢false, false≢true}
+use mathlib.Core.List.{List, [], _∷_, _++_, append-assoc, append-nil}
+use Prim.Native.Nat.{ℕ, _+_, _-_, _≤_}
+use native.Mathlib.Omega.{arith}
+use lib.Dec.{eqb, ltb}
+use lib.ListN.{length, take, drop, replicate, length-append, length-drop, length-replicate, take-append-drop}
+use lib.Seq.{take-at, take-append-add, length-take-le}
+use borrow.Author.Tests.{ltb-false, eq-eqb, le-ltb}
+use Rattle.octets.specs.Octets.{xors, put}
+use Rattle.octets.proofs.Strings.{take-put}
+use Rattle.aes.specs.Aes.{aes}
+use Rattle.cmac.specs.Cmac.{zeros, pickString}
+use Rattle.header.specs.Header.{total, strings}
+use Rattle.ctr.specs.Counter.{xorStream}
+use Rattle.siv.specs.Answer.{Outcome, pickNumber, first, verdict}
+use Rattle.siv.specs.Siv.{ctrKey, tagOf, streamed, sealed, opened, genuine}
+use Rattle.siv.specs.Calls.{either, limit, scratchNeed, openCall}
+use Rattle.siv.proofs.Laws.{openJudged, length-opened}
+use Rattle.stream.specs.declared.Stream.{Stream}
+use Rattle.stream.specs.State.{ended, start}
+use Rattle.stream.specs.Steps.{Result, success, beginSealer, beginOpener, finishStep}
+use Rattle.demands.specs.Whole.{Admits}
+use Rattle.demands.specs.Run.{Begin, sealer, opener, Call, add, turn, write, close, feed, finish, begun, call, sharedAfter, Entry, run}
+use Rattle.demands.specs.Model.{Book, After, fresh, wants, sealTag, accepts, shown, outputBefore, pickAfter, modelNumber, modelStep, modelRun}
+use Rattle.demands.specs.Third.{pickState, onePiece, gaveBy, gave, noFinish, AsModel, AsSealed, fed, AsOpened, Third, ThirdDemand}
+use Rattle.demands.proofs.Siv.{length-tag, length-streamed}
+use Rattle.demands.proofs.Whole.{judged, open-gives, open-wipes, third-whole}
+use Rattle.demands.proofs.Pieces.{stateOf, begin-state, streamed-append, streamed-rest}
+use Rattle.demands.proofs.Steps.{book, Known, adding, writing, closed, feeding, finished, Steps, step, known-shown, accepts-genuine, refusedAfter, doneAfter, model-wrong, unwanted}
+
+streamed-nil : (key v : List ℕ) → streamed key v [] ≡ []
+unfolding streamed xorStream xors
+streamed-nil key v = refl
+
+put-nil : (l : List ℕ) → put l 0 [] ≡ l
+unfolding put
+put-nil l = refl
+
+module _ (key bytes lens : List ℕ) (a : Admits key bytes lens) where
+  ss : List (List ℕ)
+  ss = strings bytes lens
+
+  -- ---- begin
+
+  sealer-begins : beginSealer key bytes lens ≡ success 0 (stateOf key (strings bytes lens) 1 zeros 0 []) []
+  unfolding beginSealer
+  sealer-begins =
+      simp (a .keyed, le-ltb 126 (length lens) (a .few), eq-eqb (total lens) (length bytes) (a .listed))
+      (ap (λ (s : Stream). success 0 s []) (begin-state key (strings bytes lens) 1 zeros))
+
+  opener-begins : (T : List ℕ) → length T ≡ 16 → beginOpener key bytes lens T ≡ success 0 (stateOf key (strings bytes lens) 3 T 0 []) []
+  unfolding beginOpener
+  opener-begins T t =
+      simp (a .keyed, le-ltb 126 (length lens) (a .few), eq-eqb (total lens) (length bytes) (a .listed), eq-eqb (length T) 16 t)
+      (ap (λ (s : Stream). success 0 s []) (begin-state key (strings bytes lens) 3 T))
+
+  module _ (shared : List ℕ) where
+    sealer-known : Known key bytes lens shared sealer (fresh sealer) (beginSealer key bytes lens .state) shared
+    sealer-known =
+        subst (λ (r : Result). Known key bytes lens shared sealer (fresh sealer) (r .state) shared) (sym sealer-begins) (adding [] (omega arith))
+
+    opener-known : (T : List ℕ) → length T ≡ 16 → Known key bytes lens shared (opener T) (fresh (opener T)) (beginOpener key bytes lens T .state) shared
+    opener-known T t =
+        subst (λ (r : Result). Known key bytes lens shared (opener T) (fresh (opener T)) (r .state) shared) (sym (opener-begins T t))
+        (subst (Known key bytes lens shared (opener T) (fresh (opener T)) (stateOf key (strings bytes lens) 3 T 0 [])) (ap (put shared 0) (streamed-nil key T) ∙ put-nil shared)
+        (subst (λ (P : List ℕ). Known key bytes lens shared (opener T) (fresh (opener T)) (stateOf key (strings bytes lens) 3 T 0 P) (put shared 0 (streamed key T []))) (streamed-nil key T)
+        (feeding T [] t (omega arith) (omega arith))))
+
+    -- ---- any list of calls
+
+    runs : (begin : Begin) (calls : List Call) (b : Book) (s : Stream) (o : List ℕ) → Known key bytes lens shared begin b s o
+        → (run s o calls .entries ≡ modelRun key bytes lens begin shared b calls .entries)
+        × Known key bytes lens shared begin (modelRun key bytes lens begin shared b calls .book) (run s o calls .state) (run s o calls .shared)
+    runs begin [] b s o k = (refl, k)
+    runs begin (c ∷ cs) b s o k =
+        let here : Steps key bytes lens shared a begin b s o c = step key bytes lens shared a begin b s o c k in
+        let rest = runs begin cs _ _ _ (here .next) in
+        (ap₂ (λ (e : Entry) (es : List Entry). e ∷ es) (here .entry) (rest .0), rest .1)
+
+    -- the state that a book stands for
+    abbrev stateBy : Begin → Book → Stream
+    stateBy sealer b =
+        pickState (eqb (b .stage) 1) (stateOf key (strings bytes lens) 1 zeros 0 (b .A))
+        (pickState (eqb (b .stage) 2) (stateOf key (strings bytes lens) 2 (tagOf key (strings bytes lens) (b .A)) (length (b .W)) (b .A)) ended)
+    stateBy (opener T) b = pickState (eqb (b .stage) 3) (stateOf key (strings bytes lens) 3 T 0 (streamed key T (b .A))) ended
+
+    known-state : (begin : Begin) (b : Book) (s : Stream) (o : List ℕ) → Known key bytes lens shared begin b s o → s ≡ stateBy begin b
+    known-state begin b s o (adding A l) = refl
+    known-state begin b s o (writing A W l w) = refl
+    known-state begin b s o (closed A W) = refl
+    known-state begin b s o (feeding T A t l r) = refl
+    known-state begin b s o (finished T A _ e) = refl
+
+    -- the model's book of the same bytes in one piece is the same
+    one-book : (begin : Begin) (b : Book) (s : Stream) (o : List ℕ) → Known key bytes lens shared begin b s o → eqb (b .stage) 0 ≡ false
+        → modelRun key bytes lens begin shared (fresh begin) (onePiece b) .book ≡ b
+    unfolding modelStep
+    one-book begin b s o (adding A l) z = simp (le-ltb limit (length A) l)
+    one-book begin b s o (writing A W l w) z = simp (le-ltb limit (length A) l, le-ltb (length A) (length W) w, le-ltb (length W) (length W) (omega arith))
+    one-book begin b s o (closed A W) z = absurd (true≢false z)
+    one-book begin b s o (feeding T A t l r) z = simp (le-ltb limit (length A) l, le-ltb (length shared) (length A) r)
+    one-book begin b s o (finished T A _ e) z = absurd (true≢false z)
+
+    zero-state : (begin : Begin) (b : Book) (s : Stream) (o : List ℕ) → Known key bytes lens shared begin b s o → eqb (b .stage) 0 ≡ true → stateBy begin b ≡ ended
+    zero-state begin b s o (adding A l) z = absurd (false≢true z)
+    zero-state begin b s o (writing A W l w) z = absurd (false≢true z)
+    zero-state begin b s o (closed A W) z = refl
+    zero-state begin b s o (feeding T A t l r) z = absurd (false≢true z)
+    zero-state begin b s o (finished T A _ e) z = refl
+
+    named : (begin : Begin) (s₀ : Stream) → Known key bytes lens shared begin (fresh begin) s₀ shared → (b : Book) (s : Stream) (o : List ℕ) → Known key bytes lens shared begin b s o
+        → s ≡ pickState (eqb (b .stage) 0) ended (run s₀ shared (onePiece b) .state)
+    named begin s₀ k₀ b s o k = go (eqb (b .stage) 0) refl
+      where
+        go : (t : Bool) → eqb (b .stage) 0 ≡ t → s ≡ pickState t ended (run s₀ shared (onePiece b) .state)
+        go true z = known-state begin b s o k ∙ zero-state begin b s o k z
+        go false z =
+            known-state begin b s o k
+            ∙ ap (stateBy begin) (sym (one-book begin b s o k z))
+            ∙ sym (known-state begin _ _ _ (runs begin (onePiece b) (fresh begin) s₀ shared k₀ .1))
+
+    as-model : (begin : Begin) (s : Stream) → begun begin key bytes lens ≡ success 0 s [] → Known key bytes lens shared begin (fresh begin) (begun begin key bytes lens .state) shared → (calls : List Call)
+        → AsModel key bytes lens begin shared calls
+    as-model begin s e k calls =
+        let r = runs begin calls (fresh begin) (begun begin key bytes lens .state) shared k in
+        record {
+          begins = ap (λ (r : Result). r .outcome) e;
+          entries = r .0;
+          output = known-shown key bytes lens shared a begin _ _ _ (r .1);
+          state = named begin (begun begin key bytes lens .state) k _ _ _ (r .1);
+        }
+
+    -- ---- what turn and the writes gave
+
+    -- what a sealer has given when its book is b
+    abbrev soFar : Book → List ℕ
+    soFar b =
+        pickString (eqb (b .stage) 1) []
+        (tagOf key (strings bytes lens) (b .A) ++ streamed key (tagOf key (strings bytes lens) (b .A)) (b .W))
+
+    -- a call gave what its book shows more
+    abbrev Gave : Book → Call → Type 0
+    Gave b c = soFar b ++ gaveBy c (modelStep key bytes lens sealer shared b c .entry) ≡ soFar (modelStep key bytes lens sealer shared b c .book)
+
+    -- from what the model comes to
+    gave-by : (b : Book) (c : Call) (m : After) → modelStep key bytes lens sealer shared b c ≡ m → soFar b ++ gaveBy c (m .entry) ≡ soFar (m .book) → Gave b c
+    gave-by b c m e p = ap (λ (x : After). soFar b ++ gaveBy c (x .entry)) e ∙ p ∙ ap (λ (x : After). soFar (x .book)) (sym e)
+
+    -- a refused call gave nothing and leaves the book
+    refused-gave : (b : Book) (c : Call) (n : ℕ) → modelStep key bytes lens sealer shared b c ≡ refusedAfter key bytes lens shared a sealer b c n → Gave b c
+    refused-gave b c n e =
+        gave-by b c (refusedAfter key bytes lens shared a sealer b c n) e
+        (ap (λ (l : List ℕ). soFar b ++ l) (none c (outputBefore key bytes lens sealer shared b c)) ∙ append-nil (soFar b))
+      where
+        none : (c : Call) (l : List ℕ) → gaveBy c (record { outcome = verdict n; output = l }) ≡ []
+        none (add piece) l = refl
+        none (turn output) l = refl
+        none (write piece output) l = refl
+        none close l = refl
+        none (feed piece) l = refl
+        none finish l = refl
+
+    wrong-gave : (b : Book) (c : Call) → eqb (b .stage) (wants c) ≡ false → Gave b c
+    wrong-gave b c e = refused-gave b c 9 (model-wrong key bytes lens shared a sealer b c e)
+
+    -- what turn and write put to the front of an output is read off it
+    read-front : (output s : List ℕ) (n : ℕ) → length s ≡ n → n ≤ length output → take n (put output 0 s) ≡ s
+    read-front output s n e h =
+        let count : n ≡ 0 + length s = omega arith in
+        ap (λ (k : ℕ). take k (put output 0 s)) count ∙ take-put output 0 s (omega arith)
+
+    add-gave : (A piece : List ℕ) → Gave (book 1 A []) (add piece)
+    unfolding modelStep
+    add-gave A piece = go (ltb limit (length (A ++ piece))) refl
+      where
+        go : (t : Bool) → ltb limit (length (A ++ piece)) ≡ t → Gave (book 1 A []) (add piece)
+        go true e = refused-gave (book 1 A []) (add piece) 4 (simp e)
+        go false e = gave-by (book 1 A []) (add piece) (doneAfter key bytes lens shared a sealer (book 1 A []) (add piece) 0) (simp e) refl
+
+    turn-gave : (A output : List ℕ) → Gave (book 1 A []) (turn output)
+    unfolding modelStep
+    turn-gave A output = go (ltb (length output) 16) refl
+      where
+        go : (t : Bool) → ltb (length output) 16 ≡ t → Gave (book 1 A []) (turn output)
+        go true e = refused-gave (book 1 A []) (turn output) 6 (simp e)
+        go false e =
+            let v : List ℕ = tagOf key (strings bytes lens) A in
+            gave-by (book 1 A []) (turn output) (doneAfter key bytes lens shared a sealer (book 1 A []) (turn output) 0) (simp e)
+            (read-front output v 16 (length-tag key (strings bytes lens) A) (ltb-false (length output) 16 e)
+            ∙ sym (ap (λ (l : List ℕ). v ++ l) (streamed-nil key v) ∙ append-nil v))
+
+    write-gave : (A W piece output : List ℕ) → Gave (book 2 A W) (write piece output)
+    unfolding modelStep
+    write-gave A W piece output = go (ltb (length A) (length (W ++ piece))) refl (ltb (length output) (length piece)) refl
+      where
+        v : List ℕ
+        v = tagOf key (strings bytes lens) A
+
+        rest : List ℕ
+        rest = drop (length W) (streamed key v (W ++ piece))
+
+        long : length rest ≡ length piece
+        long = length-drop (length W) (streamed key v (W ++ piece)) ∙ omega (arith, length-streamed key v (W ++ piece), length-append W piece)
+
+        joined : streamed key v W ++ rest ≡ streamed key v (W ++ piece)
+        joined = ap (λ (l : List ℕ). streamed key v W ++ l) (streamed-rest key v W piece) ∙ sym (streamed-append key v W piece)
+
+        go : (t : Bool) → ltb (length A) (length (W ++ piece)) ≡ t → (u : Bool) → ltb (length output) (length piece) ≡ u → Gave (book 2 A W) (write piece output)
+        go true e u f = refused-gave (book 2 A W) (write piece output) 4 (simp e)
+        go false e true f = refused-gave (book 2 A W) (write piece output) 6 (simp (e, f))
+        go false e false f =
+            gave-by (book 2 A W) (write piece output) (doneAfter key bytes lens shared a sealer (book 2 A W) (write piece output) 0) (simp (e, f))
+            (ap (λ (l : List ℕ). v ++ streamed key v W ++ l) (read-front output rest (length piece) long (ltb-false (length output) (length piece) f))
+            ∙ append-assoc v (streamed key v W) rest
+            ∙ ap (λ (l : List ℕ). v ++ l) joined)
+
+    close-gave : (A W : List ℕ) → Gave (book 2 A W) close
+    unfolding modelStep
+    close-gave A W = go (ltb (length W) (length A)) refl
+      where
+        go : (t : Bool) → ltb (length W) (length A) ≡ t → Gave (book 2 A W) close
+        go true e = refused-gave (book 2 A W) close 9 (simp e)
+        go false e = gave-by (book 2 A W) close (doneAfter key bytes lens shared a sealer (book 2 A W) close 0) (simp e) (append-nil (soFar (book 2 A W)))
+
+    gave-step : (b : Book) (s : Stream) (o : List ℕ) (c : Call) → Known key bytes lens shared sealer b s o → Gave b c
+    gave-step b s o (add piece) (adding A l) = add-gave A piece
+    gave-step b s o (turn output) (adding A l) = turn-gave A output
+    gave-step b s o (write piece output) (adding A l) = wrong-gave (book 1 A []) (write piece output) refl
+    gave-step b s o close (adding A l) = wrong-gave (book 1 A []) close refl
+    gave-step b s o (feed piece) (adding A l) = wrong-gave (book 1 A []) (feed piece) refl
+    gave-step b s o finish (adding A l) = wrong-gave (book 1 A []) finish refl
+    gave-step b s o (add piece) (writing A W l w) = wrong-gave (book 2 A W) (add piece) refl
+    gave-step b s o (turn output) (writing A W l w) = wrong-gave (book 2 A W) (turn output) refl
+    gave-step b s o (write piece output) (writing A W l w) = write-gave A W piece output
+    gave-step b s o close (writing A W l w) = close-gave A W
+    gave-step b s o (feed piece) (writing A W l w) = wrong-gave (book 2 A W) (feed piece) refl
+    gave-step b s o finish (writing A W l w) = wrong-gave (book 2 A W) finish refl
+    gave-step b s o c (closed A W) = wrong-gave (book 0 A W) c (unwanted c)
+
+    gave-run : (calls : List Call) (b : Book) (s : Stream) (o : List ℕ) → Known key bytes lens shared sealer b s o
+        → soFar b ++ gave calls (modelRun key bytes lens sealer shared b calls .entries) ≡ soFar (modelRun key bytes lens sealer shared b calls .book)
+    gave-run [] b s o k = append-nil (soFar b)
+    gave-run (c ∷ cs) b s o k =
+        let m : After = modelStep key bytes lens sealer shared b c in
+        let rest : List ℕ = gave cs (modelRun key bytes lens sealer shared (m .book) cs .entries) in
+        sym (append-assoc (soFar b) (gaveBy c (m .entry)) rest)
+        ∙ ap (λ (l : List ℕ). l ++ rest) (gave-step b s o c k)
+        ∙ gave-run cs (m .book) _ _ (step key bytes lens shared a sealer b s o c k .next)
+
+    -- the first bytes of a sealed string
+    sealed-front : (A W : List ℕ) → take (length W) A ≡ W
+        → tagOf key (strings bytes lens) A ++ streamed key (tagOf key (strings bytes lens) A) W ≡ take (16 + length W) (sealed key (strings bytes lens) A)
+    unfolding sealed
+    sealed-front A W e =
+        let v : List ℕ = tagOf key (strings bytes lens) A in
+        let n : ℕ = length W in
+        let tagged : length v ≡ 16 = length-tag key (strings bytes lens) A in
+        let place : length v + n ≡ 16 + n = omega arith in
+        let halves : streamed key v A ≡ streamed key v W ++ xorStream (aes (ctrKey key)) v (length W) (drop n A) =
+        ap (streamed key v) (sym (take-append-drop n A) ∙ ap (λ (l : List ℕ). l ++ drop n A) e) ∙ streamed-append key v W (drop n A) in
+        ap (λ (l : List ℕ). v ++ l) (sym (ap (take n) halves ∙ take-at (streamed key v W) (xorStream (aes (ctrKey key)) v (length W) (drop n A)) n (length-streamed key v W)))
+        ∙ sym (take-append-add v (streamed key v A) n)
+        ∙ ap (λ (k : ℕ). take k (v ++ streamed key v A)) place
+
+    as-sealed : (calls : List Call) → AsSealed key bytes lens shared calls
+    as-sealed calls =
+        let r = runs sealer calls (fresh sealer) (beginSealer key bytes lens .state) shared sealer-known in
+        let b : Book = modelRun key bytes lens sealer shared (fresh sealer) calls .book in
+        let joined = ap (gave calls) (r .0) ∙ gave-run calls (fresh sealer) (beginSealer key bytes lens .state) shared sealer-known in
+        record { joined = joined; firstBytes = λ e. joined ∙ go b e (eqb (b .stage) 1) }
+      where
+        go : (b : Book) → take (length (b .W)) (b .A) ≡ b .W → (t : Bool)
+            → pickString t [] (tagOf key (strings bytes lens) (b .A) ++ streamed key (tagOf key (strings bytes lens) (b .A)) (b .W))
+            ≡ take (pickNumber t 0 (16 + length (b .W))) (sealed key (strings bytes lens) (b .A))
+        go b e true = refl
+        go b e false = sealed-front (b .A) (b .W) e
+
+    -- ---- the first finish
+
+    module _ (T : List ℕ) (tagged : length T ≡ 16) where
+      wrong-stays : (b : Book) (c : Call) → b .stage ≡ 3 → eqb (b .stage) (wants c) ≡ false → modelStep key bytes lens (opener T) shared b c .book .stage ≡ 3
+      wrong-stays b c e w = ap (λ (m : After). m .book .stage) (model-wrong key bytes lens shared a (opener T) b c w) ∙ e
+
+      feed-stays : (b : Book) (piece : List ℕ) → b .stage ≡ 3 → modelStep key bytes lens (opener T) shared b (feed piece) .book .stage ≡ 3
+      unfolding modelStep
+      feed-stays b piece e = go (either (eqb (modelNumber key bytes lens (opener T) shared b (feed piece)) 0) (eqb (modelNumber key bytes lens (opener T) shared b (feed piece)) 8))
+        where
+          done : After
+          done = doneAfter key bytes lens shared a (opener T) b (feed piece) (modelNumber key bytes lens (opener T) shared b (feed piece))
+
+          left : After
+          left = refusedAfter key bytes lens shared a (opener T) b (feed piece) (modelNumber key bytes lens (opener T) shared b (feed piece))
+
+          go : (t : Bool) → pickAfter t done left .book .stage ≡ 3
+          go true = refl
+          go false = e
+
+      -- an opener stays in stage 3 until a finish
+      stays : (b : Book) (c : Call) → b .stage ≡ 3 → noFinish (c ∷ []) ≡ true → modelStep key bytes lens (opener T) shared b c .book .stage ≡ 3
+      stays b (add piece) e n = wrong-stays b (add piece) e (ap (λ (k : ℕ). eqb k 1) e)
+      stays b (turn output) e n = wrong-stays b (turn output) e (ap (λ (k : ℕ). eqb k 1) e)
+      stays b (write piece output) e n = wrong-stays b (write piece output) e (ap (λ (k : ℕ). eqb k 2) e)
+      stays b close e n = wrong-stays b close e (ap (λ (k : ℕ). eqb k 2) e)
+      stays b (feed piece) e n = feed-stays b piece e
+      stays b finish e n = absurd (false≢true n)
+
+      stays-run : (calls : List Call) (b : Book) → b .stage ≡ 3 → noFinish calls ≡ true → modelRun key bytes lens (opener T) shared b calls .book .stage ≡ 3
+      stays-run [] b e n = e
+      stays-run (add piece ∷ cs) b e n = stays-run cs _ (stays b (add piece) e refl) n
+      stays-run (turn output ∷ cs) b e n = stays-run cs _ (stays b (turn output) e refl) n
+      stays-run (write piece output ∷ cs) b e n = stays-run cs _ (stays b (write piece output) e refl) n
+      stays-run (close ∷ cs) b e n = stays-run cs _ (stays b close e refl) n
+      stays-run (feed piece ∷ cs) b e n = stays-run cs _ (stays b (feed piece) e refl) n
+      stays-run (finish ∷ cs) b e n = absurd (false≢true n)
+
+      -- what is fed lies within the limit and within the output
+      limits : (begin : Begin) (b : Book) (s : Stream) (o : List ℕ) → Known key bytes lens shared begin b s o → b .stage ≡ 3 → (length (b .A) ≤ limit) × (length (b .A) ≤ length shared)
+      limits begin b s o (adding A l) e = absurd (omega (arith, e))
+      limits begin b s o (writing A W l w) e = absurd (omega (arith, e))
+      limits begin b s o (closed A W) e = absurd (omega (arith, e))
+      limits begin b s o (feeding T A t l r) e = (l, r)
+      limits begin b s o (finished T A _ x) e = absurd (omega (arith, e))
+
+      -- finish, as the model has it, against whole opening of the tag and all that was fed
+      module _ (b : Book) (at : b .stage ≡ 3) (within : length (b .A) ≤ limit) (roomy : length (b .A) ≤ length shared) (output scratch : List ℕ)
+          (large : length (b .A) ≤ length output) (scratchy : scratchNeed (length (b .A)) ≤ length scratch) where
+        y : List ℕ
+        y = T ++ b .A
+
+        long : length y ≡ 16 + length (b .A)
+        unfolding y
+        long = length-append T (b .A) ∙ omega arith
+
+        passes : openJudged key bytes lens y output scratch ≡ 0
+        passes = judged key bytes lens y output scratch a (omega (arith, long)) (omega (arith, long)) (omega (arith, long)) (omega (arith, long))
+
+        said : (t : Bool) → accepts key bytes lens (opener T) shared T (b .A) ≡ t
+            → modelStep key bytes lens (opener T) shared b finish .entry
+            ≡ record {
+              outcome = record { number = pickNumber (not t) 8 0; count = pickNumber t (length (b .A)) 0 };
+              output = put shared 0 (pickString t (opened key (T ++ b .A)) (replicate (length (b .A)) 0));
+            }
+        unfolding modelStep
+        said true h = simp (eq-eqb (b .stage) 3 at, h)
+        said false h = simp (eq-eqb (b .stage) 3 at, h)
+
+        agrees : modelStep key bytes lens (opener T) shared b finish .entry
+            ≡ record {
+              outcome = openCall key bytes lens (T ++ b .A) output scratch .outcome;
+              output = put shared 0 (take (length (b .A)) (openCall key bytes lens (T ++ b .A) output scratch .output));
+            }
+        unfolding y
+        agrees = go (genuine key (strings bytes lens) y) refl
+          where
+            n : ℕ
+            n = length (b .A)
+
+            count : length (opened key y) ≡ n
+            count = length-opened key y ∙ omega (arith, long)
+
+            entry : Outcome → List ℕ → Entry
+            entry o s = record { outcome = o; output = put shared 0 s }
+
+            go : (t : Bool) → genuine key (strings bytes lens) y ≡ t
+                → modelStep key bytes lens (opener T) shared b finish .entry
+                ≡ record { outcome = openCall key bytes lens y output scratch .outcome; output = put shared 0 (take n (openCall key bytes lens y output scratch .output)) }
+            go true g =
+                let gives = open-gives key bytes lens y output scratch passes g in
+                said true (accepts-genuine key bytes lens shared a T (b .A) tagged within roomy ∙ g)
+                ∙ ap₂ entry (sym (gives .0 ∙ ap (λ (k : ℕ). record { number = 0; count = k }) count)) (sym (ap (take n) (gives .1) ∙ read-front output (opened key y) n count large))
+            go false g =
+                let wipes = open-wipes key bytes lens y output scratch passes g in
+                let zeroed : length y - 16 ≡ n = omega (arith, long) in
+                said false (accepts-genuine key bytes lens shared a T (b .A) tagged within roomy ∙ g)
+                ∙ ap₂ entry (sym (wipes .0))
+                (sym (ap (take n) (wipes .1 ∙ ap (λ (k : ℕ). put output 0 (replicate k 0)) zeroed) ∙ read-front output (replicate n 0) n (length-replicate {A = ℕ} n 0) large))
+
+      as-opened : (calls : List Call) (output scratch : List ℕ) → noFinish calls ≡ true → length (fed key bytes lens T shared calls) ≤ length output
+          → scratchNeed (length (fed key bytes lens T shared calls)) ≤ length scratch → AsOpened key bytes lens T shared calls output scratch
+      as-opened calls output scratch none large scratchy =
+          let k = opener-known T tagged in
+          let r = runs (opener T) calls (fresh (opener T)) (beginOpener key bytes lens T .state) shared k in
+          let at = stays-run calls (fresh (opener T)) refl none in
+          let lim = limits (opener T) _ _ _ (r .1) at in
+          let whole = step key bytes lens shared a (opener T) _ _ _ finish (r .1) .entry ∙ agrees (modelRun key bytes lens (opener T) shared (fresh (opener T)) calls .book) at (lim .0) (lim .1) output scratch large scratchy in
+          record { verdict = ap (λ (e : Entry). e .outcome) whole; plaintext = ap (λ (e : Entry). e .output) whole }
+
+pub third : ThirdDemand
+third key bytes lens a =
+    record {
+      whole = λ y output scratch. third-whole key bytes lens y output scratch a;
+      sealers = λ shared. as-model key bytes lens a shared sealer _ (sealer-begins key bytes lens a) (sealer-known key bytes lens a shared);
+      openers = λ T shared calls t. as-model key bytes lens a shared (opener T) _ (opener-begins key bytes lens a T t) (opener-known key bytes lens a shared T t) calls;
+      seals = as-sealed key bytes lens a;
+      opens = λ T shared calls output scratch t. as-opened key bytes lens a shared T t calls output scratch;
+    }

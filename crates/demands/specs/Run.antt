@@ -1,0 +1,63 @@
+-- Lists of piecewise calls, and what the calls' definitions make of one.
+-- Assumes nothing.
+use mathlib.Core.List.{List, [], _∷_}
+use Prim.Native.Nat.{ℕ}
+use Rattle.siv.specs.Answer.{Outcome}
+use Rattle.stream.specs.declared.Stream.{Stream}
+use Rattle.stream.specs.Steps.{Result, beginSealer, beginOpener, addStep, turnStep, writeStep, closeStep, feedStep, finishStep}
+
+-- which begin a list of calls starts from; the opener's has a tag
+pub data Begin : Type 0 where
+  sealer : Begin
+  opener : List ℕ → Begin
+
+-- a call with its arguments but for the state; turn and write bring the output that is lent to them, feed and finish share one
+pub data Call : Type 0 where
+  add : List ℕ → Call
+  turn : List ℕ → Call
+  write : List ℕ → List ℕ → Call
+  close : Call
+  feed : List ℕ → Call
+  finish : Call
+
+-- what begin gave
+abbrev pub begun : Begin → List ℕ → List ℕ → List ℕ → Result
+begun sealer key bytes lens = beginSealer key bytes lens
+begun (opener T) key bytes lens = beginOpener key bytes lens T
+
+-- what a call gives on a state, with the shared output
+abbrev pub call : Stream → List ℕ → Call → Result
+call s shared (add piece) = addStep s piece
+call s shared (turn output) = turnStep s output
+call s shared (write piece output) = writeStep s piece output
+call s shared close = closeStep s
+call s shared (feed piece) = feedStep s piece shared
+call s shared finish = finishStep s shared
+
+-- the shared output after a call that left `last` in the output lent to it
+abbrev pub sharedAfter : List ℕ → Call → List ℕ → List ℕ
+sharedAfter shared (add piece) last = shared
+sharedAfter shared (turn output) last = shared
+sharedAfter shared (write piece output) last = shared
+sharedAfter shared close last = shared
+sharedAfter shared (feed piece) last = last
+sharedAfter shared finish last = last
+
+-- what a call gave: number and length, and the last contents of the output lent to it
+pub record Entry : Type 0 where
+  pub outcome : Outcome
+  pub output : List ℕ
+
+-- what a list of calls gave, the state after it and the shared output
+pub record Run : Type 0 where
+  pub entries : List Entry
+  pub state : Stream
+  pub shared : List ℕ
+
+-- each call gets the state that the last one returned, and feed and finish the output as the last one left it
+abbrev pub run : Stream → List ℕ → List Call → Run
+run s shared [] = record { entries = []; state = s; shared = shared }
+run s shared (c ∷ cs) =
+    let r = call s shared c in
+    let rest = run (r .state) (sharedAfter shared c (r .output)) cs in
+    record { entries = record { outcome = r .outcome; output = r .output } ∷ rest .entries; state = rest .state; shared = rest .shared }

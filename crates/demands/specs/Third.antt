@@ -1,0 +1,123 @@
+-- The third demand as one statement: whole opening accepts exactly what sealing gives, and every list of piecewise calls behaves as the model, the plain book of document 01.
+-- Assumes nothing.
+use mathlib.Core.Path.{_≡_}
+use mathlib.Core.Bool.{Bool, true, false}
+use mathlib.Core.List.{List, [], _∷_, _++_}
+use Prim.Native.Nat.{ℕ, _+_, _-_, _≤_}
+use lib.Dec.{eqb}
+use lib.ListN.{length, take, replicate}
+use Rattle.octets.specs.Octets.{put}
+use Rattle.cmac.specs.Cmac.{pickString}
+use Rattle.header.specs.Header.{strings}
+use Rattle.siv.specs.Answer.{pickNumber}
+use Rattle.siv.specs.Siv.{streamed, sealed}
+use Rattle.siv.specs.Calls.{scratchNeed, openCall}
+use Rattle.stream.specs.declared.Stream.{Stream}
+use Rattle.stream.specs.State.{ended}
+use Rattle.stream.specs.Steps.{finishStep}
+use Rattle.demands.specs.Whole.{Admits, success, ThirdWhole}
+use Rattle.demands.specs.Run.{Begin, sealer, opener, Call, add, turn, write, close, feed, finish, begun, Entry, Run, run}
+use Rattle.demands.specs.Model.{Book, fresh, ModelRun, sealTag, shown, modelRun}
+
+abbrev pub pickCalls : Bool → List Call → List Call → List Call
+pickCalls true a b = a
+pickCalls false a b = b
+
+abbrev pub pickState : Bool → Stream → Stream → Stream
+pickState true a b = a
+pickState false a b = b
+
+-- the same bytes in one piece: one add of A in stage 1; one add of A, turn and one write of W in stage 2; one feed of A in stage 3
+abbrev pub onePiece : Book → List Call
+onePiece b =
+    pickCalls (eqb (b .stage) 1) (add (b .A) ∷ [])
+    (pickCalls (eqb (b .stage) 2) (add (b .A) ∷ turn (replicate 16 0) ∷ write (b .W) (b .W) ∷ []) (feed (b .A) ∷ []))
+
+-- the bytes that a call gave: turn's and write's, as many as the answer's length says, from the front of the output
+abbrev pub gaveBy : Call → Entry → List ℕ
+gaveBy (add piece) e = []
+gaveBy (turn output) e = take (e .outcome .count) (e .output)
+gaveBy (write piece output) e = take (e .outcome .count) (e .output)
+gaveBy close e = []
+gaveBy (feed piece) e = []
+gaveBy finish e = []
+
+abbrev pub gave : List Call → List Entry → List ℕ
+gave [] es = []
+gave (c ∷ cs) [] = []
+gave (c ∷ cs) (e ∷ es) = gaveBy c e ++ gave cs es
+
+-- whether a list has no finish
+abbrev pub noFinish : List Call → Bool
+noFinish [] = true
+noFinish (add piece ∷ cs) = noFinish cs
+noFinish (turn output ∷ cs) = noFinish cs
+noFinish (write piece output ∷ cs) = noFinish cs
+noFinish (close ∷ cs) = noFinish cs
+noFinish (feed piece ∷ cs) = noFinish cs
+noFinish (finish ∷ cs) = false
+
+module _ (key bytes lens : List ℕ) where
+  -- any list of calls, refused ones included, after either begin, with any shared output
+  module _ (begin : Begin) (shared : List ℕ) (calls : List Call) where
+    -- what the calls' definitions make of the list, from the state that begin returned
+    abbrev pub ran : Run
+    ran = run (begun begin key bytes lens .state) shared calls
+
+    -- what the model says
+    abbrev pub told : ModelRun
+    told = modelRun key bytes lens begin shared (fresh begin) calls
+
+    pub record AsModel : Type 0 where
+      -- begin succeeds
+      pub begins : begun begin key bytes lens .outcome ≡ success 0
+      -- all numbers, lengths and output bytes are the model's
+      pub entries : ran .entries ≡ told .entries
+      pub output : ran .shared ≡ shown key bytes lens begin shared (told .book)
+      -- the state is that of the same bytes given in one piece; in stage 0 it is all zero
+      pub state : ran .state
+          ≡ pickState (eqb (told .book .stage) 0) ended (run (begun begin key bytes lens .state) shared (onePiece (told .book)) .state)
+
+  -- a sealer's list of calls
+  module _ (shared : List ℕ) (calls : List Call) where
+    abbrev pub sealerBook : Book
+    sealerBook = told sealer shared calls .book
+
+    abbrev pub sealerGave : List ℕ
+    sealerGave = gave calls (ran sealer shared calls .entries)
+
+    pub record AsSealed : Type 0 where
+      -- turn gave the tag of sealing A, and the accepted writes' bytes, joined, are W xor the key stream of that tag
+      pub joined : sealerGave
+          ≡ pickString (eqb (sealerBook .stage) 1) []
+          (sealTag key bytes lens sealer shared (sealerBook .A) ++ streamed key (sealTag key bytes lens sealer shared (sealerBook .A)) (sealerBook .W))
+      -- what turn and the writes gave is the first bytes of sealing all that was added, if the writes brought its first bytes again
+      pub firstBytes : take (length (sealerBook .W)) (sealerBook .A) ≡ sealerBook .W
+          → sealerGave ≡ take (pickNumber (eqb (sealerBook .stage) 1) 0 (16 + length (sealerBook .W))) (sealed key (strings bytes lens) (sealerBook .A))
+
+  -- all that was fed to an opener
+  abbrev pub fed : List ℕ → List ℕ → List Call → List ℕ
+  fed T shared calls = told (opener T) shared calls .book .A
+
+  -- an opener's list of calls without a finish, then the first finish; and whole opening of the tag and all that was fed, with buffers large enough
+  module _ (T shared : List ℕ) (calls : List Call) (output scratch : List ℕ) where
+    pub record AsOpened : Type 0 where
+      -- finish gives the number and the length of whole opening
+      pub verdict : finishStep (ran (opener T) shared calls .state) (ran (opener T) shared calls .shared) .outcome
+          ≡ openCall key bytes lens (T ++ fed T shared calls) output scratch .outcome
+      -- and its plaintext or zeros, and nothing else
+      pub plaintext : finishStep (ran (opener T) shared calls .state) (ran (opener T) shared calls .shared) .output
+          ≡ put shared 0 (take (length (fed T shared calls)) (openCall key bytes lens (T ++ fed T shared calls) output scratch .output))
+
+-- The third demand: any key and header list that document 01 admits.
+pub record Third (key bytes lens : List ℕ) : Type 0 where
+  pub whole : (y output scratch : List ℕ) → length y - 16 ≤ length output → scratchNeed (length y - 16) ≤ length scratch → ThirdWhole key bytes lens y output scratch
+  pub sealers : (shared : List ℕ) (calls : List Call) → AsModel key bytes lens sealer shared calls
+  pub openers : (T shared : List ℕ) (calls : List Call) → length T ≡ 16 → AsModel key bytes lens (opener T) shared calls
+  pub seals : (shared : List ℕ) (calls : List Call) → AsSealed key bytes lens shared calls
+  pub opens : (T shared : List ℕ) (calls : List Call) (output scratch : List ℕ) → length T ≡ 16 → noFinish calls ≡ true
+      → length (fed key bytes lens T shared calls) ≤ length output → scratchNeed (length (fed key bytes lens T shared calls)) ≤ length scratch
+      → AsOpened key bytes lens T shared calls output scratch
+
+abbrev pub ThirdDemand : Type 0
+ThirdDemand = (key bytes lens : List ℕ) → Admits key bytes lens → Third key bytes lens
