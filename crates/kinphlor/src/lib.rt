@@ -25,7 +25,7 @@ fn number(r: Refusal) -> u64
 }
 
 // An answer as one number: its number times 2 to the power 32, plus its length.
-fn pack(a: Answer) -> u64
+pub fn pack(a: Answer) -> u64
     ensures { λ n. ⌜ n ≡ word (outcomeOf a) ⌝ }
 {
     match a {

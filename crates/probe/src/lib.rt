@@ -1,0 +1,139 @@
+// The calls that the C interface leaves out, exported for the host tests alone: whole calls with any header list, and each piecewise call on a state given as bytes.
+mod pieces;
+mod state;
+
+use stream::Step;
+use stream::Stream;
+
+// What a call answers where the state's buffer has not state::LEN bytes: no number of document 01's.
+const NO_STATE: u64 = 0xffffffff00000000;
+
+// Hands the state back through its buffer and the answer as one number.
+fn give(step: Step, bytes: &mut [u8]) -> u64 {
+    if bytes.len() != state::LEN {
+        return NO_STATE;
+    }
+    let answer = step.answer;
+    let s = step.state;
+    state::store(s, bytes);
+    kinphlor::pack(answer)
+}
+
+#[no_mangle]
+pub extern "C" fn probe_seal(
+    key: &[u8],
+    header: &[u8],
+    lens: &[u32],
+    input: &[u8],
+    output: &mut [u8],
+    scratch: &mut [u8],
+) -> u64 {
+    kinphlor::pack(siv::seal(key, header, lens, input, output, scratch))
+}
+
+#[no_mangle]
+pub extern "C" fn probe_open(
+    key: &[u8],
+    header: &[u8],
+    lens: &[u32],
+    input: &[u8],
+    output: &mut [u8],
+    scratch: &mut [u8],
+) -> u64 {
+    kinphlor::pack(siv::open(key, header, lens, input, output, scratch))
+}
+
+#[no_mangle]
+pub extern "C" fn probe_begin_sealer(
+    key: &[u8],
+    header: &[u8],
+    lens: &[u32],
+    bytes: &mut [u8],
+) -> u64 {
+    give(Stream::begin_sealer(key, header, lens), bytes)
+}
+
+#[no_mangle]
+pub extern "C" fn probe_begin_opener(
+    key: &[u8],
+    header: &[u8],
+    lens: &[u32],
+    tag: &[u8],
+    bytes: &mut [u8],
+) -> u64 {
+    give(Stream::begin_opener(key, header, lens, tag), bytes)
+}
+
+#[no_mangle]
+pub extern "C" fn probe_add(bytes: &mut [u8], piece: &[u8]) -> u64 {
+    if bytes.len() != state::LEN {
+        return NO_STATE;
+    }
+    give(state::load(bytes).add(piece), bytes)
+}
+
+#[no_mangle]
+pub extern "C" fn probe_turn(bytes: &mut [u8], output: &mut [u8]) -> u64 {
+    if bytes.len() != state::LEN {
+        return NO_STATE;
+    }
+    give(state::load(bytes).turn(output), bytes)
+}
+
+#[no_mangle]
+pub extern "C" fn probe_write(bytes: &mut [u8], piece: &[u8], output: &mut [u8]) -> u64 {
+    if bytes.len() != state::LEN {
+        return NO_STATE;
+    }
+    give(state::load(bytes).write(piece, output), bytes)
+}
+
+#[no_mangle]
+pub extern "C" fn probe_close(bytes: &mut [u8]) -> u64 {
+    if bytes.len() != state::LEN {
+        return NO_STATE;
+    }
+    give(state::load(bytes).close(), bytes)
+}
+
+#[no_mangle]
+pub extern "C" fn probe_feed(bytes: &mut [u8], piece: &[u8], output: &mut [u8]) -> u64 {
+    if bytes.len() != state::LEN {
+        return NO_STATE;
+    }
+    give(state::load(bytes).feed(piece, output), bytes)
+}
+
+#[no_mangle]
+pub extern "C" fn probe_finish(bytes: &mut [u8], output: &mut [u8]) -> u64 {
+    if bytes.len() != state::LEN {
+        return NO_STATE;
+    }
+    give(state::load(bytes).finish(output), bytes)
+}
+
+// Seals input by pieces of at most n bytes, n at least 1: the tag and then the ciphertext to the front of output. The state never leaves this call, so that it can be timed.
+#[no_mangle]
+pub extern "C" fn probe_seal_pieces(
+    key: &[u8],
+    header: &[u8],
+    lens: &[u32],
+    input: &[u8],
+    n: usize,
+    output: &mut [u8],
+) -> u64 {
+    kinphlor::pack(pieces::seal(key, header, lens, input, n, output))
+}
+
+// Opens a sealed string by pieces of at most n bytes, n at least 1: the plaintext to the front of output.
+#[no_mangle]
+pub extern "C" fn probe_open_pieces(
+    key: &[u8],
+    header: &[u8],
+    lens: &[u32],
+    input: &[u8],
+    n: usize,
+    output: &mut [u8],
+) -> u64 {
+    kinphlor::pack(pieces::open(key, header, lens, input, n, output))
+}

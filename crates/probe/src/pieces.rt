@@ -1,0 +1,111 @@
+// A whole string sealed or opened by pieces of one length. A call that is refused leaves a state that the next one refuses, so that the last answer tells.
+ghost use Prim.Native.Nat.{_+_, _≤_, _<_};
+ghost use lib.ListN.{length};
+use siv::Answer;
+use siv::Refusal;
+use stream::Step;
+use stream::Stream;
+
+// Where the piece of n bytes ends that begins at a place before the end.
+fn piece_end(at: usize, n: usize, end: usize) -> usize
+    requires { ⌜ (at < end) × (1 ≤ n) ⌝ }
+    ensures { λ r. ⌜ (at < r) × (r ≤ end) ⌝ }
+{
+    if end - at <= n {
+        return end;
+    }
+    at + n
+}
+
+fn state_of(step: Step) -> Stream {
+    let s = step.state;
+    s
+}
+
+fn answer_of(step: Step) -> Answer {
+    let a = step.answer;
+    a
+}
+
+fn add_all(s: Stream, input: &[u8], n: usize) -> Stream
+    requires { ⌜ 1 ≤ n ⌝ }
+{
+    let mut state = s;
+    let mut at = 0;
+    while at < input.len() {
+        let end = piece_end(at, n, input.len());
+        state = state_of(state.add(&input[at..end]));
+        at = end;
+    }
+    state
+}
+
+// Writes the ciphertext of all of input to output from byte 16 on.
+fn write_all(s: Stream, input: &[u8], n: usize, output: &mut [u8]) -> Stream
+    requires { ⌜ (1 ≤ n) × (16 + length (now input) ≤ length (now output)) ⌝ }
+{
+    let mut state = s;
+    let mut at = 0;
+    while at < input.len() {
+        let end = piece_end(at, n, input.len());
+        state = state_of(state.write(&input[at..end], &mut output[16 + at..]));
+        at = end;
+    }
+    state
+}
+
+fn feed_all(s: Stream, input: &[u8], n: usize, output: &mut [u8]) -> Stream
+    requires { ⌜ 1 ≤ n ⌝ }
+{
+    let mut state = s;
+    let mut at = 0;
+    while at < input.len() {
+        let end = piece_end(at, n, input.len());
+        state = state_of(state.feed(&input[at..end], output));
+        at = end;
+    }
+    state
+}
+
+pub(crate) fn seal(
+    key: &[u8],
+    header: &[u8],
+    lens: &[u32],
+    input: &[u8],
+    n: usize,
+    output: &mut [u8],
+) -> Answer {
+    if n == 0 {
+        return Answer::Refused(Refusal::State);
+    }
+    if output.len() < 16 {
+        return Answer::Refused(Refusal::OutputShort);
+    }
+    if output.len() - 16 < input.len() {
+        return Answer::Refused(Refusal::OutputShort);
+    }
+    let begun = state_of(Stream::begin_sealer(key, header, lens));
+    let added = add_all(begun, input, n);
+    let turned = state_of(added.turn(output));
+    let written = write_all(turned, input, n, output);
+    answer_of(written.close())
+}
+
+pub(crate) fn open(
+    key: &[u8],
+    header: &[u8],
+    lens: &[u32],
+    input: &[u8],
+    n: usize,
+    output: &mut [u8],
+) -> Answer {
+    if n == 0 {
+        return Answer::Refused(Refusal::State);
+    }
+    if input.len() < 16 {
+        return Answer::Refused(Refusal::SealedLength);
+    }
+    let begun = state_of(Stream::begin_opener(key, header, lens, &input[0..16]));
+    let fed = feed_all(begun, &input[16..], n, output);
+    answer_of(fed.finish(output))
+}
