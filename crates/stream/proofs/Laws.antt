@@ -100,16 +100,15 @@ pub record Fit (wanted : ℕ) (s : Stream) : Type 0 where
 pub fit : (wanted : ℕ) (s : Stream) → fits wanted s ≡ true → Fit wanted s
 unfolding fits
 fit wanted s e =
-    let unused = allZero (drop (tailLength (s .total)) (s .tail)) in
-    let inWritten = not (ltb (writtenLimit wanted (s .total)) (s .written)) in
-    let inTotal = not (ltb limit (s .total)) in
-    let a = both-right (eqb (s .stage) wanted) (both (isWidth (s .width)) (both inTotal (both inWritten unused))) e in
-    let b = both-right (isWidth (s .width)) (both inTotal (both inWritten unused)) a in
-    let d = both-right inTotal (both inWritten unused) b in
+    let a = both-right (eqb (s .stage) wanted) _ e in
+    let b = both-right (isWidth (s .width)) _ a in
+    let d = both-right (not (ltb limit (s .total))) _ b in
     record {
-      width = width-most (s .width) (both-left (isWidth (s .width)) (both inTotal (both inWritten unused)) a);
-      total = ltb-false limit (s .total) (not-true (ltb limit (s .total)) (both-left inTotal (both inWritten unused) b));
-      written = ltb-false (writtenLimit wanted (s .total)) (s .written) (not-true (ltb (writtenLimit wanted (s .total)) (s .written)) (both-left inWritten unused d));
+      width = width-most (s .width) (both-left (isWidth (s .width)) _ a);
+      total = ltb-false limit (s .total) (not-true (ltb limit (s .total)) (both-left (not (ltb limit (s .total))) _ b));
+      written =
+          ltb-false (writtenLimit wanted (s .total)) (s .written)
+          (not-true (ltb (writtenLimit wanted (s .total)) (s .written)) (both-left (not (ltb (writtenLimit wanted (s .total)) (s .written))) _ d));
     }
 
 -- ---- the calls' results

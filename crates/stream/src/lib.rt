@@ -190,15 +190,15 @@ impl Stream {
                 state: self,
             };
         }
-        let n = self.total;
+        let total = self.total;
         let v = self.v;
         if octets::same_block(work::make_tag(self), v) {
             return Step {
-                answer: Answer::Done(n),
+                answer: Answer::Done(total),
                 state: work::ended(),
             };
         }
-        octets::zero_at(output, 0, n);
+        octets::zero_at(output, 0, total);
         Step {
             answer: Answer::Refused(Refusal::Forged),
             state: work::ended(),

@@ -34,7 +34,7 @@ enum-told-2 c = search needs
 
 stream-at-requires : tie.Need-stream-at-requires
 stream-at-requires c κs = let a = feed-admits _ _ _ (none (c .before .before)) in
-    (a .0 .width, a .2)
+    (a .0 .width, omega (arith, a .2))
 
 add-absorb : tie.Need-add-absorb
 add-absorb c = let a = feed-admits _ _ _ (none (c .before .before .before .before .before)) in

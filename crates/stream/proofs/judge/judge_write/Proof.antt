@@ -2,6 +2,7 @@
 -- Assumes nothing.
 use mathlib.Core.Path.{ap, sym, _∙_}
 use mathlib.Core.Bool.{not}
+use native.Mathlib.Omega.{arith}
 use borrow.Author.Tests.{lt-ltb, le-ltb, not-false}
 use borrow.Author.Needs.{needs}
 use Rattle.stream.proofs.Laws.{fit}
@@ -15,7 +16,7 @@ returns : tie.Need-returns
 returns c = simp (sym (ap not (c .before .fits2 .ensures)) ∙ c .if1 .taken)
 
 passes-requires : tie.Need-passes-requires
-passes-requires c κs = fit 2 _ (sym (c .before .fits2 .ensures) ∙ not-false _ (c .if1 .left)) .written
+passes-requires c κs = omega (arith, fit 2 _ (sym (c .before .fits2 .ensures) ∙ not-false _ (c .if1 .left)) .written)
 
 returns-2 : tie.Need-returns-2
 returns-2 c = simp (sym (ap not (c .before .before .before .fits2 .ensures)) ∙ c .before .before .if1 .left, sym (c .before .passes .ensures) ∙ c .if2 .taken)
