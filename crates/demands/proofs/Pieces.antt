@@ -2,32 +2,32 @@
 -- Assumes nothing.
 use mathlib.Core.Path.{_≡_, refl, ap, ap₂, sym, _∙_}
 use mathlib.Core.Bool.{true}
-use mathlib.Core.List.{List, [], _∷_, _++_}
+use mathlib.Core.List.{List, [], _++_}
 use Prim.Native.Nat.{ℕ, zero, suc, _+_, _-_, _*_, _/_, _≤_}
 use native.Mathlib.Omega.{arith}
 use lib.ListN.{length, take, drop, replicate, length-append, length-take, length-drop, length-replicate}
-use lib.Seq.{drop-append-le, drop-drop, drop-at, length-take-le}
+use lib.Seq.{drop-append-le, drop-drop, drop-at}
 use borrow.Author.Tests.{eq-eqb, le-ltb}
 use Rattle.octets.specs.Octets.{put}
 use Rattle.octets.proofs.Strings.{take-put, drop-put}
-use Rattle.aes.specs.Aes.{isWidth, aes}
+use Rattle.aes.specs.Aes.{aes}
 use Rattle.aes.specs.Cipher.{cipher}
 use Rattle.aes.specs.KeyExpansion.{roundKeys}
+use Rattle.aes.proofs.Widths.{length-cipher}
 use Rattle.cmac.specs.declared.Subkeys.{Subkeys}
 use Rattle.cmac.specs.Cmac.{zeros, chain, subkeys, zeroCipher}
 use Rattle.cmac.proofs.Laws.{chain-front, chain-add}
 use Rattle.s2v.specs.S2v.{tailLength, headerResult, tagFrom, tag, s2v}
 use Rattle.s2v.proofs.Laws.{Tail, tail, tag-tail}
 use Rattle.ctr.specs.Counter.{xorStream}
-use Rattle.ctr.proofs.Laws.{xorStream-append, length-xorStream}
-use Rattle.siv.specs.Siv.{macKey, ctrKey, tagOf, streamed}
+use Rattle.ctr.proofs.Laws.{xorStream-append}
 use Rattle.siv.specs.Calls.{isKeyLength, limit}
+use Rattle.siv.specs.Siv.{macKey, ctrKey, tagOf, streamed}
 use Rattle.siv.proofs.Laws.{KeyHalves, halves, aes-cipher}
 use Rattle.stream.specs.declared.Stream.{Stream}
 use Rattle.stream.specs.State.{start, allZero, writtenLimit, fits, held, tailOf, passedBlocks, added, tagOfState}
 use Rattle.stream.specs.Steps.{streamedAt}
 use Rattle.stream.proofs.Laws.{stateWith, Cut, cut, passed-more}
-use Rattle.aes.proofs.Widths.{length-cipher}
 use Rattle.demands.proofs.Siv.{length-streamed}
 
 with-same : (s : Stream) {c c′ : List ℕ} {n n′ : ℕ} {t t′ : List ℕ} → c ≡ c′ → n ≡ n′ → t ≡ t′ → stateWith s c n t ≡ stateWith s c′ n′ t′

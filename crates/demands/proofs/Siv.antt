@@ -1,9 +1,9 @@
 -- Laws of sealing and opening as functions on strings: each undoes the other.
 -- Assumes nothing.
-use mathlib.Core.Path.{_≡_, refl, ap, ap₂, sym, _∙_}
+use mathlib.Core.Path.{_≡_, ap, ap₂, _∙_}
 use mathlib.Core.Bool.{true}
 use mathlib.Core.List.{List, _++_}
-use Prim.Native.Nat.{ℕ, _+_, _-_, _≤_}
+use Prim.Native.Nat.{ℕ, _+_, _-_}
 use native.Mathlib.Omega.{arith}
 use lib.ListN.{length, take, drop, length-append, take-append-drop}
 use lib.Seq.{take-at, drop-at}
@@ -13,7 +13,6 @@ use Rattle.aes.specs.Aes.{aes}
 use Rattle.aes.proofs.Widths.{length-cipher}
 use Rattle.cmac.specs.Cmac.{cmacFrom}
 use Rattle.s2v.specs.S2v.{tagFrom, tag, s2v}
-use Rattle.ctr.specs.Counter.{xorStream}
 use Rattle.ctr.proofs.Laws.{length-xorStream, xorStream-undo}
 use Rattle.siv.specs.Siv.{ctrKey, tagOf, streamed, sealed, opened, genuine}
 

@@ -2,32 +2,32 @@
 -- Assumes nothing.
 use mathlib.Core.Path.{_≡_, refl, ap, ap₂, sym, subst, _∙_}
 use mathlib.Core.Bool.{Bool, true, false, not}
-use mathlib.Core.List.{List, [], _∷_, _++_}
+use mathlib.Core.List.{List, [], _++_}
 use Prim.Native.Nat.{ℕ, _+_, _-_, _≤_}
 use native.Mathlib.Omega.{arith}
 use lib.Dec.{eqb, ltb}
 use lib.ListN.{length, take, drop, replicate, length-append, length-replicate}
 use lib.Seq.{take-at, drop-at}
-use borrow.Author.Tests.{ltb-false, eq-eqb, le-ltb}
-use Rattle.octets.specs.Octets.{put, both, same}
+use borrow.Author.Tests.{ltb-false, le-ltb}
+use Rattle.octets.specs.Octets.{put, same}
 use Rattle.octets.proofs.Strings.{length-put, put-put}
 use Rattle.aes.specs.Aes.{aes}
 use Rattle.cmac.specs.Cmac.{zeros, pickString}
 use Rattle.header.specs.Header.{strings}
 use Rattle.ctr.specs.Counter.{xorStream}
-use Rattle.siv.specs.Answer.{Outcome, Row, row, pickNumber, first, verdict}
+use Rattle.siv.specs.Answer.{pickNumber, first, verdict}
+use Rattle.siv.specs.Calls.{limit, scratchNeed}
 use Rattle.siv.specs.Siv.{ctrKey, tagOf, streamed, opened, genuine}
-use Rattle.siv.specs.Calls.{either, limit, scratchNeed, openNumber}
 use Rattle.siv.proofs.Laws.{put-over}
 use Rattle.stream.specs.declared.Stream.{Stream}
 use Rattle.stream.specs.State.{ended, fits, added, tagOfState}
-use Rattle.stream.specs.Steps.{Result, success, refusal, pickResult, settle, feedRows, turned, wrote, streamedAt, addStep, turnStep, writeStep, closeStep, feedStep, finishStep}
+use Rattle.stream.specs.Steps.{Result, success, refusal, settle, feedRows, turned, streamedAt, addStep, turnStep, writeStep, closeStep, feedStep, finishStep}
+use Rattle.demands.specs.Model.{Book, wants, After, accepts, shown, outputBefore, outputAfter, bookAfter, countAfter, modelStep}
+use Rattle.demands.specs.Run.{Begin, sealer, opener, Call, add, turn, write, close, feed, finish, call, sharedAfter}
 use Rattle.demands.specs.Whole.{Admits}
-use Rattle.demands.specs.Run.{Begin, sealer, opener, Call, add, turn, write, close, feed, finish, call, sharedAfter, Entry}
-use Rattle.demands.specs.Model.{Book, wants, After, pickAfter, sealTag, accepts, shown, outputBefore, outputAfter, bookAfter, countAfter, modelNumber, modelStep}
+use Rattle.demands.proofs.Pieces.{stateOf, join, fits-state, tag-state, stream-state, streamed-append, streamed-rest}
 use Rattle.demands.proofs.Siv.{length-streamed}
 use Rattle.demands.proofs.Whole.{by-tag, judged}
-use Rattle.demands.proofs.Pieces.{stateOf, join, fits-state, tag-state, stream-state, streamed-append, streamed-rest}
 
 -- ---- a call in a stage that it does not want
 

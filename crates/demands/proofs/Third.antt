@@ -7,7 +7,7 @@ use Prim.Native.Nat.{ℕ, _+_, _-_, _≤_}
 use native.Mathlib.Omega.{arith}
 use lib.Dec.{eqb, ltb}
 use lib.ListN.{length, take, drop, replicate, length-append, length-drop, length-replicate, take-append-drop}
-use lib.Seq.{take-at, take-append-add, length-take-le}
+use lib.Seq.{take-at, take-append-add}
 use borrow.Author.Tests.{ltb-false, eq-eqb, le-ltb}
 use Rattle.octets.specs.Octets.{xors, put}
 use Rattle.octets.proofs.Strings.{take-put}
@@ -16,20 +16,20 @@ use Rattle.cmac.specs.Cmac.{zeros, pickString}
 use Rattle.header.specs.Header.{total, strings}
 use Rattle.ctr.specs.Counter.{xorStream}
 use Rattle.siv.specs.Answer.{Outcome, pickNumber, first, verdict}
-use Rattle.siv.specs.Siv.{ctrKey, tagOf, streamed, sealed, opened, genuine}
 use Rattle.siv.specs.Calls.{either, limit, scratchNeed, openCall}
+use Rattle.siv.specs.Siv.{ctrKey, tagOf, streamed, sealed, opened, genuine}
 use Rattle.siv.proofs.Laws.{openJudged, length-opened}
 use Rattle.stream.specs.declared.Stream.{Stream}
-use Rattle.stream.specs.State.{ended, start}
-use Rattle.stream.specs.Steps.{Result, success, beginSealer, beginOpener, finishStep}
+use Rattle.stream.specs.State.{ended}
+use Rattle.stream.specs.Steps.{Result, success, beginSealer, beginOpener}
+use Rattle.demands.specs.Model.{Book, After, fresh, wants, accepts, outputBefore, pickAfter, modelNumber, modelStep, modelRun}
+use Rattle.demands.specs.Run.{Begin, sealer, opener, Call, add, turn, write, close, feed, finish, begun, call, Entry, run}
+use Rattle.demands.specs.Third.{pickState, onePiece, gaveBy, gave, noFinish, AsModel, AsSealed, fed, AsOpened, ThirdDemand}
 use Rattle.demands.specs.Whole.{Admits}
-use Rattle.demands.specs.Run.{Begin, sealer, opener, Call, add, turn, write, close, feed, finish, begun, call, sharedAfter, Entry, run}
-use Rattle.demands.specs.Model.{Book, After, fresh, wants, sealTag, accepts, shown, outputBefore, pickAfter, modelNumber, modelStep, modelRun}
-use Rattle.demands.specs.Third.{pickState, onePiece, gaveBy, gave, noFinish, AsModel, AsSealed, fed, AsOpened, Third, ThirdDemand}
-use Rattle.demands.proofs.Siv.{length-tag, length-streamed}
-use Rattle.demands.proofs.Whole.{judged, open-gives, open-wipes, third-whole}
 use Rattle.demands.proofs.Pieces.{stateOf, begin-state, streamed-append, streamed-rest}
+use Rattle.demands.proofs.Siv.{length-tag, length-streamed}
 use Rattle.demands.proofs.Steps.{book, Known, adding, writing, closed, feeding, finished, Steps, step, known-shown, accepts-genuine, refusedAfter, doneAfter, model-wrong, unwanted}
+use Rattle.demands.proofs.Whole.{judged, open-gives, open-wipes, third-whole}
 
 streamed-nil : (key v : List ℕ) → streamed key v [] ≡ []
 unfolding streamed xorStream xors

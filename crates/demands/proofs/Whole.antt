@@ -1,21 +1,20 @@
 -- The second demand and the third demand's part on whole calls hold.
 -- Assumes nothing.
-use mathlib.Core.Path.{_≡_, refl, ap, ap₂, sym, subst, _∙_}
+use mathlib.Core.Path.{_≡_, refl, ap, sym, subst, _∙_}
 use mathlib.Core.Bool.{Bool, true, false, not}
 use mathlib.Core.List.{List, [], _∷_, _++_}
 use Prim.Native.Nat.{ℕ, _+_, _-_, _≤_}
 use native.Mathlib.Decide.{ℕ-discrete}
 use native.Mathlib.Omega.{arith}
-use lib.Dec.{eqb}
 use lib.ListN.{length, take, replicate}
 use borrow.Author.Tests.{le-ltb, eq-eqb}
 use Rattle.octets.specs.Octets.{put}
 use Rattle.octets.proofs.Strings.{take-put}
 use Rattle.header.specs.Header.{total, strings}
-use Rattle.siv.specs.Answer.{Outcome, Row, row, first, pickNumber, verdict}
+use Rattle.siv.specs.Answer.{Outcome, Row, row, pickNumber, verdict}
+use Rattle.siv.specs.Calls.{limit, scratchNeed, headerRows, openRows, sealNumber, sealCall, openNumber, openCall}
 use Rattle.siv.specs.Siv.{sealed, opened, genuine}
-use Rattle.siv.specs.Calls.{isKeyLength, limit, scratchNeed, headerRows, sealRows, openRows, sealNumber, sealCall, openNumber, openCall}
-use Rattle.siv.proofs.Laws.{first-pass, first-stop, openJudged, OpenAdmits, open-admits, length-opened}
+use Rattle.siv.proofs.Laws.{first-pass, first-stop, openJudged, open-admits, length-opened}
 use Rattle.demands.specs.Whole.{Admits, success, Gives, Second, SealsTo, ThirdWhole}
 use Rattle.demands.proofs.Siv.{length-sealed, opened-sealed, genuine-sealed, sealed-opened}
 

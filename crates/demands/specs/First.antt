@@ -11,8 +11,8 @@ use Rattle.cmac.specs.Cmac.{zeros}
 use Rattle.header.specs.Header.{strings}
 use Rattle.siv.specs.declared.Answer.{Answer}
 use Rattle.siv.specs.Answer.{Row, row, outcomeOf}
-use Rattle.siv.specs.Siv.{sealed, opened, genuine}
 use Rattle.siv.specs.Calls.{Result, scratchNeed, headerRows, sealRows, openRows, sealCall, openCall}
+use Rattle.siv.specs.Siv.{sealed, opened, genuine}
 use Rattle.stream.specs.declared.Stream.{Stream}
 use Rattle.stream.specs.State.{ended, start, added, tagOfState}
 use Rattle.stream.specs.Steps as steps

@@ -9,8 +9,8 @@ use Rattle.octets.specs.Octets.{put}
 use Rattle.cmac.specs.Cmac.{pickString}
 use Rattle.header.specs.Header.{strings}
 use Rattle.siv.specs.Answer.{Row, row, first, pickNumber, verdict}
-use Rattle.siv.specs.Siv.{tagOf, streamed, opened}
 use Rattle.siv.specs.Calls.{either, limit, scratchNeed, openNumber}
+use Rattle.siv.specs.Siv.{tagOf, streamed, opened}
 use Rattle.demands.specs.Run.{Begin, sealer, opener, Call, add, turn, write, close, feed, finish, Entry}
 
 -- what the model keeps: a stage, A, the bytes added or fed, and W, those written

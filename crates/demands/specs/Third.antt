@@ -10,14 +10,14 @@ use Rattle.octets.specs.Octets.{put}
 use Rattle.cmac.specs.Cmac.{pickString}
 use Rattle.header.specs.Header.{strings}
 use Rattle.siv.specs.Answer.{pickNumber}
-use Rattle.siv.specs.Siv.{streamed, sealed}
 use Rattle.siv.specs.Calls.{scratchNeed, openCall}
+use Rattle.siv.specs.Siv.{streamed, sealed}
 use Rattle.stream.specs.declared.Stream.{Stream}
 use Rattle.stream.specs.State.{ended}
 use Rattle.stream.specs.Steps.{finishStep}
-use Rattle.demands.specs.Whole.{Admits, success, ThirdWhole}
-use Rattle.demands.specs.Run.{Begin, sealer, opener, Call, add, turn, write, close, feed, finish, begun, Entry, Run, run}
 use Rattle.demands.specs.Model.{Book, fresh, ModelRun, sealTag, shown, modelRun}
+use Rattle.demands.specs.Run.{Begin, sealer, opener, Call, add, turn, write, close, feed, finish, begun, Entry, Run, run}
+use Rattle.demands.specs.Whole.{Admits, success, ThirdWhole}
 
 abbrev pub pickCalls : Bool → List Call → List Call → List Call
 pickCalls true a b = a

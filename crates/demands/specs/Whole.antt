@@ -8,8 +8,8 @@ use lib.ListN.{length, replicate}
 use Rattle.octets.specs.Octets.{put}
 use Rattle.header.specs.Header.{total, strings}
 use Rattle.siv.specs.Answer.{Outcome, verdict}
-use Rattle.siv.specs.Siv.{sealed}
 use Rattle.siv.specs.Calls.{Result, isKeyLength, limit, scratchNeed, sealCall, openCall}
+use Rattle.siv.specs.Siv.{sealed}
 
 -- a key and a header list that document 01 admits
 pub record Admits (key bytes lens : List ℕ) : Type 0 where

@@ -8,13 +8,13 @@ use native.Mathlib.Numerals.{add-one}
 use native.Mathlib.Decide.{decLt}
 use native.Mathlib.Omega.{arith}
 use lib.Dec.{eqb, ltb}
-use lib.ListN.{length, getD, take, drop, replicate, length-append, length-take, length-drop, drop-of-length-le}
+use lib.ListN.{length, getD, take, drop, replicate, length-drop, drop-of-length-le}
 use lib.Seq.{take-all, take-append-le, take-append-add, drop-append-le, drop-append-add, drop-cons, length-take-le, take-at, drop-at}
 use borrow.Author.Tests.{eqb-true, eq-eqb, ne-eqb, ltb-false, lt-ltb, le-ltb, not-true, not-false}
 use types.Run.{OneOf}
 use denote.Enum.Declared.{tagOf}
 use Rattle.octets.specs.Octets.{both, put, part, same}
-use Rattle.octets.proofs.Strings.{put-put, put-all, length-part, part-to, part-rest}
+use Rattle.octets.proofs.Strings.{part-to}
 use Rattle.octets.proofs.Tests.{both-left, both-right}
 use Rattle.aes.specs.Aes.{isWidth, either}
 use Rattle.aes.specs.Cipher.{cipher}
@@ -29,12 +29,12 @@ use Rattle.siv.specs.declared.Answer.{Answer}
 use Rattle.siv.specs.declared.Answer.the-variants.{Done, Refused}
 use Rattle.siv.specs.declared.Refusal.the-variants.{Forged}
 use Rattle.siv.specs.Answer.{Outcome, Row, row, pickNumber, first, outcomeOf, verdict}
-use Rattle.siv.specs.Siv.{macKey, ctrKey}
 use Rattle.siv.specs.Calls.{isKeyLength, limit, headerRows}
+use Rattle.siv.specs.Siv.{macKey, ctrKey}
 use Rattle.siv.proofs.Answer.{the-type}
 use Rattle.siv.proofs.Laws.{not-due, first-not, first-pass, first-stop, told-done}
-use Rattle.stream.specs.declared.Stream.{Stream}
 use Rattle.stream.specs.declared.Step.{Step}
+use Rattle.stream.specs.declared.Stream.{Stream}
 use Rattle.stream.specs.State.{allZero, writtenLimit, fits, passedBlocks, tailOf, added, ended, start, tagOfState}
 use Rattle.stream.specs.Steps.{Result, Did, pickResult, success, refusal, settle, openerRows, streamedAt, finishStep, addRows, turnRows, writeRows, feedRows, finishRows}
 

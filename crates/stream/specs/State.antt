@@ -12,8 +12,8 @@ use Rattle.aes.specs.KeyExpansion.{roundKeys}
 use Rattle.cmac.specs.Cmac.{zeros, chain, subkeys, zeroCipher}
 use Rattle.s2v.specs.S2v.{tailLength, headerResult, tagFrom}
 use Rattle.siv.specs.Answer.{pickNumber}
-use Rattle.siv.specs.Siv.{macKey, ctrKey}
 use Rattle.siv.specs.Calls.{limit}
+use Rattle.siv.specs.Siv.{macKey, ctrKey}
 use Rattle.stream.specs.declared.Stream.{Stream}
 
 -- the ended state: all fields zero

@@ -13,8 +13,8 @@ use Rattle.header.specs.Header.{strings}
 use Rattle.ctr.specs.Counter.{xorStream}
 use Rattle.siv.specs.Answer.{Outcome, Row, row, first, outcomeOf, verdict}
 use Rattle.siv.specs.Calls.{limit, headerRows}
-use Rattle.stream.specs.declared.Stream.{Stream}
 use Rattle.stream.specs.declared.Step.{Step}
+use Rattle.stream.specs.declared.Stream.{Stream}
 use Rattle.stream.specs.State.{ended, start, fits, added, tagOfState}
 
 -- everything that a call does; a call that is lent no output has the empty one

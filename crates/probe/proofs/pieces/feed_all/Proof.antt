@@ -1,9 +1,9 @@
 -- `probe::pieces::feed_all` meets its contract.
 -- Assumes nothing.
-use borrow.Author.Needs.{needs}
 use mathlib.Core.Path.{_≡_}
 use Prim.Native.Nat.{_-_, _≤_}
 use lib.ListN.{length}
+use borrow.Author.Needs.{needs}
 use Rattle.probe.proofs.pieces.feed_all.Statement.{statement}
 use Rattle.probe.proofs.pieces.feed_all.Tie as tie
 

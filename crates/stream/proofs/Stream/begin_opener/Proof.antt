@@ -1,14 +1,12 @@
 -- `stream::Stream::begin_opener` meets its contract.
 -- Assumes nothing.
-use borrow.Author.Needs.{needs}
 use mathlib.Core.Path.{_≡_, refl, ap, _∙_}
-use mathlib.Core.List.{List}
-use Prim.Native.Nat.{ℕ}
 use native.Mathlib.Omega.{arith}
 use lib.ListN.{length}
+use borrow.Author.Needs.{needs}
+use Rattle.header.specs.Header.{strings}
 use Rattle.siv.specs.Answer.{first}
 use Rattle.siv.proofs.Laws.{told-refused}
-use Rattle.header.specs.Header.{strings}
 use Rattle.stream.specs.State.{start}
 use Rattle.stream.specs.Steps.{openerRows, beginOpener}
 use Rattle.stream.proofs.Laws.{begin-refused, done, passed, opener-admits, whole-tag}

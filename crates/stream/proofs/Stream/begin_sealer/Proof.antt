@@ -1,9 +1,8 @@
 -- `stream::Stream::begin_sealer` meets its contract.
 -- Assumes nothing.
-use borrow.Author.Needs.{needs}
 use mathlib.Core.Path.{_≡_, refl}
-use native.Mathlib.Omega.{arith}
 use lib.ListN.{length}
+use borrow.Author.Needs.{needs}
 use Rattle.siv.specs.Answer.{first}
 use Rattle.siv.specs.Calls.{headerRows}
 use Rattle.siv.proofs.Laws.{told-refused}

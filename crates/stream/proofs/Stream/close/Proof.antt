@@ -1,11 +1,11 @@
 -- `stream::Stream::close` meets its contract.
 -- Assumes nothing.
-use borrow.Author.Needs.{needs}
-use mathlib.Core.Path.{_≡_, refl, ap, sym, _∙_}
+use mathlib.Core.Path.{refl, ap, sym, _∙_}
 use mathlib.Core.Bool.{Bool, not}
-use Rattle.siv.specs.Answer.{pickNumber, verdict}
+use borrow.Author.Needs.{needs}
 use Rattle.siv.specs.declared.Answer.the-variants.{Refused}
 use Rattle.siv.specs.declared.Refusal.the-variants.{State}
+use Rattle.siv.specs.Answer.{pickNumber, verdict}
 use Rattle.siv.proofs.Laws.{refusal-number}
 use Rattle.stream.specs.Steps.{closeStep}
 use Rattle.stream.proofs.Laws.{refused, done}

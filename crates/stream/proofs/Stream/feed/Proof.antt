@@ -1,11 +1,10 @@
 -- `stream::Stream::feed` meets its contract.
 -- Assumes nothing.
-use borrow.Author.Needs.{needs}
 use mathlib.Core.Path.{_≡_, refl, ap, _∙_}
-use mathlib.Core.List.{List}
+use Prim.Native.Nat.{_-_}
 use native.Mathlib.Omega.{arith}
-use Prim.Native.Nat.{_+_, _-_, _≤_}
-use lib.ListN.{length, take, drop, length-take, length-drop}
+use lib.ListN.{length, length-take, length-drop}
+use borrow.Author.Needs.{needs}
 use Rattle.siv.specs.Answer.{first}
 use Rattle.siv.proofs.Laws.{told-refused}
 use Rattle.stream.specs.State.{added}

@@ -1,13 +1,11 @@
 -- `stream::Stream::turn` meets its contract.
 -- Assumes nothing.
-use borrow.Author.Needs.{needs}
-use mathlib.Core.Path.{_≡_, refl, ap, sym, _∙_}
-use mathlib.Core.List.{List}
+use mathlib.Core.Path.{_≡_, refl, ap, _∙_}
 use lib.ListN.{length}
+use borrow.Author.Needs.{needs}
 use Rattle.octets.specs.Octets.{put}
 use Rattle.siv.specs.Answer.{first}
 use Rattle.siv.proofs.Laws.{told-refused}
-use Rattle.stream.specs.declared.Stream.{Stream}
 use Rattle.stream.specs.Steps.{turnRows, turned, turnStep}
 use Rattle.stream.proofs.Laws.{refused, done, passed, turn-admits}
 use Rattle.stream.proofs.Stream.turn.Statement.{statement}

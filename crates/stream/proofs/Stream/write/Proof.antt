@@ -1,9 +1,9 @@
 -- `stream::Stream::write` meets its contract.
 -- Assumes nothing.
-use borrow.Author.Needs.{needs}
 use mathlib.Core.Path.{_≡_, refl}
 use native.Mathlib.Omega.{arith}
 use lib.ListN.{length}
+use borrow.Author.Needs.{needs}
 use Rattle.siv.specs.Answer.{first}
 use Rattle.siv.proofs.Laws.{told-refused}
 use Rattle.stream.specs.Steps.{writeRows, writeStep}

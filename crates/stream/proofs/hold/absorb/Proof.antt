@@ -1,10 +1,10 @@
 -- `stream::hold::absorb` meets its contract.
 -- Assumes nothing.
-use borrow.Author.Needs.{needs}
-use mathlib.Core.Path.{_≡_, refl, ap₂, _∙_}
+use mathlib.Core.Path.{_≡_, refl, ap₂}
 use Prim.Native.Nat.{ℕ, _-_}
 use native.Mathlib.Omega.{arith}
 use lib.ListN.{length, length-take}
+use borrow.Author.Needs.{needs}
 use Rattle.s2v.specs.S2v.{tailLength}
 use Rattle.stream.proofs.Laws.{piece, absorbed}
 use Rattle.stream.proofs.hold.absorb.Statement.{statement}

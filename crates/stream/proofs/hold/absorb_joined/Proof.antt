@@ -1,9 +1,7 @@
 -- `stream::hold::absorb_joined` meets its contract.
 -- Assumes nothing.
+use mathlib.Core.Path.{ap, _∙_}
 use borrow.Author.Needs.{needs}
-use mathlib.Core.Path.{ap, ap₂, _∙_}
-use mathlib.Core.List.{List}
-use Prim.Native.Nat.{ℕ}
 use Rattle.octets.specs.Octets.{xors}
 use Rattle.aes.specs.Cipher.{cipher}
 use Rattle.stream.proofs.hold.absorb_joined.Statement.{statement}

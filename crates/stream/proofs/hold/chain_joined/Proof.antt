@@ -1,14 +1,14 @@
 -- `stream::hold::chain_joined` meets its contract.
 -- Assumes nothing.
-use borrow.Author.Needs.{needs}
-use Rattle.stream.proofs.hold.chain_joined.Statement.{statement}
 use mathlib.Core.Path.{_≡_, refl, ap, _∙_}
 use mathlib.Core.List.{_++_}
 use Prim.Native.Nat.{_-_, _≤_}
 use native.Mathlib.Omega.{arith}
+use borrow.Author.Needs.{needs}
 use Rattle.aes.specs.Cipher.{cipher}
 use Rattle.cmac.specs.Cmac.{chain}
 use Rattle.cmac.proofs.Laws.{chain-more}
+use Rattle.stream.proofs.hold.chain_joined.Statement.{statement}
 use Rattle.stream.proofs.hold.chain_joined.Tie as tie
 
 abbrev Inv-loop : tie.InvT-loop

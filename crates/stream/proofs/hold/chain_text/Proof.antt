@@ -1,9 +1,9 @@
 -- `stream::hold::chain_text` meets its contract.
 -- Assumes nothing.
-use borrow.Author.Needs.{needs}
 use mathlib.Core.List.{_++_}
+use mathlib.Core.Path.{ap, sym}
+use borrow.Author.Needs.{needs}
 use Rattle.aes.specs.Cipher.{cipher}
-use mathlib.Core.Path.{_≡_, ap, sym}
 use Rattle.cmac.specs.Cmac.{chain}
 use Rattle.stream.proofs.hold.chain_text.Statement.{statement}
 use Rattle.stream.proofs.hold.chain_text.Tie as tie

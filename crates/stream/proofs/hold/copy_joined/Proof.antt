@@ -1,13 +1,12 @@
 -- `stream::hold::copy_joined` meets its contract.
 -- Assumes nothing.
-use borrow.Author.Needs.{needs}
-use mathlib.Core.Path.{_≡_, ap, ap₂, sym, _∙_}
-use mathlib.Core.List.{List, _++_}
+use mathlib.Core.Path.{_≡_, ap, sym, _∙_}
+use mathlib.Core.List.{List}
 use Prim.Native.Nat.{ℕ, _+_, _-_}
 use native.Mathlib.Omega.{arith}
 use lib.ListN.{length, take, drop, length-take, length-drop}
-use lib.Seq.{length-take-le}
-use Rattle.octets.specs.Octets.{put, part}
+use borrow.Author.Needs.{needs}
+use Rattle.octets.specs.Octets.{put}
 use Rattle.octets.proofs.Strings.{part-to, part-rest, put-put}
 use Rattle.stream.proofs.Laws.{part-right, part-left, part-seam}
 use Rattle.stream.proofs.hold.copy_joined.Statement.{statement}

@@ -1,10 +1,10 @@
 -- `stream::hold::load_joined` meets its contract.
 -- Assumes nothing.
-use borrow.Author.Needs.{needs}
-use mathlib.Core.Path.{_≡_, ap, sym, _∙_}
+use mathlib.Core.Path.{sym, _∙_}
 use mathlib.Core.List.{_++_}
 use native.Mathlib.Omega.{arith}
-use lib.ListN.{length, length-append}
+use lib.ListN.{length-append}
+use borrow.Author.Needs.{needs}
 use Rattle.octets.proofs.Strings.{put-all, length-part}
 use Rattle.stream.proofs.Laws.{part-right}
 use Rattle.stream.proofs.hold.load_joined.Statement.{statement}

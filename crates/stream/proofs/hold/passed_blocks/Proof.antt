@@ -1,9 +1,9 @@
 -- `stream::hold::passed_blocks` meets its contract.
 -- Assumes nothing.
-use borrow.Author.Needs.{needs}
 use mathlib.Core.Path.{ap}
 use Prim.Native.Nat.{ℕ, _-_, _/_}
 use native.Mathlib.Omega.{arith}
+use borrow.Author.Needs.{needs}
 use Rattle.s2v.proofs.Laws.{tail}
 use Rattle.stream.specs.State.{passedBlocks}
 use Rattle.stream.proofs.hold.passed_blocks.Statement.{statement}

@@ -1,11 +1,11 @@
 -- `stream::hold::tail_joined` meets its contract.
 -- Assumes nothing.
-use borrow.Author.Needs.{needs}
 use mathlib.Core.Path.{ap, _∙_}
 use mathlib.Core.List.{_++_}
 use native.Mathlib.Omega.{arith}
 use lib.ListN.{replicate, drop, length-append, length-drop}
 use lib.Seq.{take-all}
+use borrow.Author.Needs.{needs}
 use Rattle.octets.specs.Octets.{put}
 use Rattle.stream.proofs.hold.tail_joined.Statement.{statement}
 use Rattle.stream.proofs.hold.tail_joined.Tie as tie

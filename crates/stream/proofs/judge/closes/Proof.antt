@@ -1,7 +1,7 @@
 -- `stream::judge::closes` meets its contract.
 -- Assumes nothing.
-use borrow.Author.Needs.{needs}
 use mathlib.Core.Path.{sym, _∙_}
+use borrow.Author.Needs.{needs}
 use borrow.Author.Tests.{lt-ltb, le-ltb, not-true, not-false}
 use Rattle.stream.proofs.judge.closes.Statement.{statement}
 use Rattle.stream.proofs.judge.closes.Tie as tie

@@ -1,19 +1,11 @@
 -- `stream::judge::fits` meets its contract.
 -- Assumes nothing.
-use borrow.Author.Needs.{needs}
-use mathlib.Core.Path.{subst}
+use mathlib.Core.Path.{subst, ap, _∙_, _≡_, sym}
 use Prim.Native.Nat.{ℕ, _≤_, _<_}
-use lib.ListN.{drop}
-use Rattle.stream.specs.State.{allZero}
-use borrow.Author.Tests.{not-true, not-false}
-use Rattle.stream.specs.State.{writtenLimit}
-use mathlib.Core.Path.{ap, _∙_}
-use mathlib.Core.Bool.{not}
-use native.Mathlib.Omega.{arith}
-use borrow.Author.Tests.{eq-eqb, ne-eqb, lt-ltb, le-ltb}
-use Rattle.stream.specs.State.{fits}
-use mathlib.Core.Path.{_≡_, sym}
-use lib.ListN.{length}
+use lib.ListN.{drop, length}
+use borrow.Author.Needs.{needs}
+use borrow.Author.Tests.{not-true, not-false, eq-eqb, ne-eqb, lt-ltb, le-ltb}
+use Rattle.stream.specs.State.{allZero, fits}
 use Rattle.stream.proofs.judge.fits.Statement.{statement}
 use Rattle.stream.proofs.judge.fits.Tie as tie
 

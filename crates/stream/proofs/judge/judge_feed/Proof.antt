@@ -1,15 +1,13 @@
 -- `stream::judge::judge_feed` meets its contract.
 -- Assumes nothing.
 use mathlib.Core.Path.{ap, sym, _∙_}
-use Prim.Native.Nat.{_+_}
-use Rattle.siv.specs.Calls.{limit}
 use mathlib.Core.Bool.{not}
-use borrow.Author.Tests.{lt-ltb, le-ltb, not-false}
-use borrow.Author.Needs.{needs}
-use Rattle.stream.proofs.Laws.{fit}
-use lib.Dec.{ltb}
-use borrow.Author.Tests.{ltb-false}
+use Prim.Native.Nat.{_+_}
 use native.Mathlib.Omega.{arith}
+use borrow.Author.Tests.{lt-ltb, le-ltb, not-false, ltb-false}
+use borrow.Author.Needs.{needs}
+use Rattle.siv.specs.Calls.{limit}
+use Rattle.stream.proofs.Laws.{fit}
 use Rattle.stream.proofs.judge.judge_feed.Statement.{statement}
 use Rattle.stream.proofs.judge.judge_feed.Tie as tie
 

@@ -1,12 +1,12 @@
 -- `stream::judge::judge_opener` meets its contract.
 -- Assumes nothing.
-use borrow.Author.Needs.{needs}
-use mathlib.Core.Path.{_≡_, refl, ap, sym, _∙_}
+use mathlib.Core.Path.{refl, ap, sym, _∙_}
 use mathlib.Core.Bool.{not}
 use mathlib.Core.List.{[], _∷_}
 use lib.Dec.{eqb}
+use borrow.Author.Needs.{needs}
 use borrow.Author.Tests.{eq-eqb, ne-eqb}
-use Rattle.siv.specs.Answer.{Outcome, row, first, verdict}
+use Rattle.siv.specs.Answer.{Outcome, row, verdict}
 use Rattle.siv.specs.Calls.{headerRows}
 use Rattle.siv.proofs.Laws.{told-refused, told-done, first-stop, first-pass}
 use Rattle.stream.proofs.judge.judge_opener.Statement.{statement}

@@ -1,7 +1,7 @@
 -- `stream::judge::written_limit` meets its contract.
 -- Assumes nothing.
-use Rattle.stream.proofs.judge.written_limit.Statement.{statement}
 use borrow.Author.Tests.{eq-eqb, ne-eqb}
+use Rattle.stream.proofs.judge.written_limit.Statement.{statement}
 use Rattle.stream.proofs.judge.written_limit.Tie as tie
 
 returns : tie.Need-returns

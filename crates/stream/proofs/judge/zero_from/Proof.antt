@@ -1,13 +1,13 @@
 -- `stream::judge::zero_from` meets its contract.
 -- Assumes nothing.
-use borrow.Author.Needs.{needs}
-use Rattle.stream.proofs.judge.zero_from.Statement.{statement}
 use mathlib.Core.Path.{_≡_, refl, sym, _∙_}
 use Prim.Native.Nat.{_-_}
 use native.Mathlib.Omega.{arith}
 use lib.ListN.{length, drop}
+use borrow.Author.Needs.{needs}
 use Rattle.stream.specs.State.{allZero}
 use Rattle.stream.proofs.Laws.{zero-more, zero-stop, zero-end}
+use Rattle.stream.proofs.judge.zero_from.Statement.{statement}
 use Rattle.stream.proofs.judge.zero_from.Tie as tie
 
 abbrev Inv-loop : tie.InvT-loop

@@ -1,18 +1,15 @@
 -- `stream::work::make_tag` meets its contract.
 -- Assumes nothing.
-use borrow.Author.Needs.{needs}
-use mathlib.Core.Path.{ap₂, _∙_}
-use mathlib.Core.List.{List}
+use mathlib.Core.Path.{ap₂, _∙_, _≡_}
 use Prim.Native.Nat.{ℕ, _-_}
 use native.Mathlib.Omega.{arith}
-use lib.ListN.{take, length-take}
+use lib.ListN.{take, length-take, length}
+use borrow.Author.Needs.{needs}
 use Rattle.aes.specs.Cipher.{cipher}
 use Rattle.cmac.specs.declared.Subkeys.{Subkeys}
 use Rattle.s2v.specs.S2v.{tailLength, tagFrom}
 use Rattle.stream.specs.State.{tagOfState}
-use Rattle.stream.proofs.Laws.{Cut, cut}
-use mathlib.Core.Path.{_≡_, sym}
-use lib.ListN.{length}
+use Rattle.stream.proofs.Laws.{cut}
 use Rattle.stream.proofs.work.make_tag.Statement.{statement}
 use Rattle.stream.proofs.work.make_tag.Tie as tie
 

@@ -1,7 +1,6 @@
 -- `stream::work::stream_at` meets its contract.
 -- Assumes nothing.
 use borrow.Author.Needs.{needs}
-use mathlib.Core.Path.{ap, _∙_}
 use Rattle.aes.specs.Cipher.{cipher}
 use Rattle.ctr.proofs.Pieces.{xorStream-none}
 use Rattle.stream.specs.Steps.{streamedAt}
