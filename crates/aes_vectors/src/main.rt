@@ -4,91 +4,12 @@ ghost use Prim.Native.Nat.{_≤_};
 ghost use Rattle.aes.specs.Tables.{Ready};
 use aes::Engine;
 use aes::KeyAnswer;
+use fips197::A1_KEY;
+use fips197::A2_KEY;
+use fips197::A3_KEY;
 use octets::Block;
 
-// Appendix A's keys.
-const A1: [u8; 16] = [
-    0x2b,
-    0x7e,
-    0x15,
-    0x16,
-    0x28,
-    0xae,
-    0xd2,
-    0xa6,
-    0xab,
-    0xf7,
-    0x15,
-    0x88,
-    0x09,
-    0xcf,
-    0x4f,
-    0x3c,
-];
-
-const A2: [u8; 24] = [
-    0x8e,
-    0x73,
-    0xb0,
-    0xf7,
-    0xda,
-    0x0e,
-    0x64,
-    0x52,
-    0xc8,
-    0x10,
-    0xf3,
-    0x2b,
-    0x80,
-    0x90,
-    0x79,
-    0xe5,
-    0x62,
-    0xf8,
-    0xea,
-    0xd2,
-    0x52,
-    0x2c,
-    0x6b,
-    0x7b,
-];
-
-const A3: [u8; 32] = [
-    0x60,
-    0x3d,
-    0xeb,
-    0x10,
-    0x15,
-    0xca,
-    0x71,
-    0xbe,
-    0x2b,
-    0x73,
-    0xae,
-    0xf0,
-    0x85,
-    0x7d,
-    0x77,
-    0x81,
-    0x1f,
-    0x35,
-    0x2c,
-    0x07,
-    0x3b,
-    0x61,
-    0x08,
-    0xd7,
-    0x2d,
-    0x98,
-    0x10,
-    0xa3,
-    0x09,
-    0x14,
-    0xdf,
-    0xf4,
-];
-
-// Appendix B's input; its key is A1.
+// Appendix B's input; its key is A.1's.
 const B: Block = [
     0x32,
     0x43,
@@ -204,9 +125,9 @@ fn encryption(engine: &Engine, label: &[u8], key: &[u8], block: Block)
 fn appendix_a(engine: &Engine)
     requires { ⌜ Ready (now engine) ⌝ }
 {
-    expansion(engine, b"A.1", &A1);
-    expansion(engine, b"A.2", &A2);
-    expansion(engine, b"A.3", &A3);
+    expansion(engine, b"A.1", &A1_KEY);
+    expansion(engine, b"A.2", &A2_KEY);
+    expansion(engine, b"A.3", &A3_KEY);
 }
 
 fn appendix_c(engine: &Engine)
@@ -245,7 +166,7 @@ fn refused_long(engine: &Engine)
 fn main() {
     let engine = aes::engine();
     appendix_a(&engine);
-    encryption(&engine, b"B", &A1, B);
+    encryption(&engine, b"B", &A1_KEY, B);
     appendix_c(&engine);
     refused_short(&engine);
     refused_long(&engine);

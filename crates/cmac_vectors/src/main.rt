@@ -4,87 +4,9 @@ ghost use Rattle.aes.specs.Tables.{Ready};
 use aes::Engine;
 use aes::RoundKeys;
 use cmac::Subkeys;
-
-const K128: [u8; 16] = [
-    0x2b,
-    0x7e,
-    0x15,
-    0x16,
-    0x28,
-    0xae,
-    0xd2,
-    0xa6,
-    0xab,
-    0xf7,
-    0x15,
-    0x88,
-    0x09,
-    0xcf,
-    0x4f,
-    0x3c,
-];
-
-const K192: [u8; 24] = [
-    0x8e,
-    0x73,
-    0xb0,
-    0xf7,
-    0xda,
-    0x0e,
-    0x64,
-    0x52,
-    0xc8,
-    0x10,
-    0xf3,
-    0x2b,
-    0x80,
-    0x90,
-    0x79,
-    0xe5,
-    0x62,
-    0xf8,
-    0xea,
-    0xd2,
-    0x52,
-    0x2c,
-    0x6b,
-    0x7b,
-];
-
-const K256: [u8; 32] = [
-    0x60,
-    0x3d,
-    0xeb,
-    0x10,
-    0x15,
-    0xca,
-    0x71,
-    0xbe,
-    0x2b,
-    0x73,
-    0xae,
-    0xf0,
-    0x85,
-    0x7d,
-    0x77,
-    0x81,
-    0x1f,
-    0x35,
-    0x2c,
-    0x07,
-    0x3b,
-    0x61,
-    0x08,
-    0xd7,
-    0x2d,
-    0x98,
-    0x10,
-    0xa3,
-    0x09,
-    0x14,
-    0xdf,
-    0xf4,
-];
+use fips197::A1_KEY;
+use fips197::A2_KEY;
+use fips197::A3_KEY;
 
 // The longest message, of which the others are the first bytes.
 const MESSAGE: [u8; 64] = [
@@ -196,7 +118,7 @@ fn examples(engine: &Engine, label: &[u8], key: &[u8])
 
 fn main() {
     let engine = aes::engine();
-    examples(&engine, b"AES-128", &K128);
-    examples(&engine, b"AES-192", &K192);
-    examples(&engine, b"AES-256", &K256);
+    examples(&engine, b"AES-128", &A1_KEY);
+    examples(&engine, b"AES-192", &A2_KEY);
+    examples(&engine, b"AES-256", &A3_KEY);
 }
