@@ -1,7 +1,7 @@
 -- Laws of keys, of the order of refusals and of the whole calls' definitions.
 -- Assumes nothing.
 use mathlib.Core.Path.{_≡_, refl, ap, ap₂, sym, subst, _∙_}
-use mathlib.Core.Bool.{Bool, true, false, not, false≢true, true≢false}
+use mathlib.Core.Bool.{Bool, true, false, not, false≢true}
 use mathlib.Core.List.{List, [], _∷_, _++_}
 use Prim.Native.Nat.{ℕ, suc, _+_, _-_, _/_, _≤_}
 use native.Mathlib.Omega.{arith}
@@ -9,24 +9,24 @@ use lib.Dec.{eqb, ltb}
 use lib.ListN.{length, take, drop, replicate, length-drop, length-replicate}
 use lib.Seq.{drop-append-add, drop-drop}
 use borrow.Author.Tests.{eqb-true, eq-eqb, ne-eqb, ltb-false, not-false}
+use types.Run.{OneOf}
+use denote.Enum.Declared.{tagOf}
+use Rattle.octets.specs.Octets.{both, put}
+use Rattle.octets.proofs.Strings.{take-put}
+use Rattle.octets.proofs.Tests.{both-left, both-right}
 use Rattle.aes.specs.Aes.{isWidth, aes, expansion}
 use Rattle.aes.specs.Cipher.{cipher}
 use Rattle.aes.specs.KeyExpansion.{roundKeys}
 use Rattle.header.specs.Header.{total, strings}
-use Rattle.octets.specs.Octets.{both, put}
-use Rattle.octets.proofs.Strings.{take-put}
-use Rattle.octets.proofs.Tests.{both-left, both-right}
 use Rattle.ctr.proofs.Laws.{length-xorStream}
-use types.Run.{OneOf}
-use denote.Enum.Declared.{tagOf}
 use Rattle.siv.specs.declared.Answer.{Answer}
 use Rattle.siv.specs.declared.Answer.the-variants.{Done, Refused}
 use Rattle.siv.specs.declared.Refusal.{Refusal}
 use Rattle.siv.specs.declared.Refusal.the-variants.{KeyLength, HeaderCount, HeaderLengths, TooLong, SealedLength, OutputShort, ScratchShort, Forged, State, EmptyNonce}
 use Rattle.siv.specs.Answer.{Outcome, Row, row, pickNumber, first, numberOf, outcomeOf, verdict}
+use Rattle.siv.specs.Calls.{either, isKeyLength, limit, scratchNeed, headerRows, openRows, Did, sealNumber, sealCall, openNumber, openCall}
 use Rattle.siv.specs.Siv.{ctrKey, streamed, sealed, opened, genuine}
 use Rattle.siv.proofs.Answer.{the-type}
-use Rattle.siv.specs.Calls.{either, isKeyLength, limit, scratchNeed, headerRows, openRows, Did, sealNumber, sealCall, openNumber, openCall}
 
 -- ---- keys
 
@@ -106,6 +106,19 @@ told-refused (Refused r) k e = refusal-number r e
 pub told-done : (a : Answer) → OneOf (0 ∷ []) (tagOf the-type a) → outcomeOf a .number ≡ 0
 told-done (Done n) k = refl
 told-done (Refused r) k = let z : _≡_ {A = ℕ} 1 0 = k in absurd (omega arith)
+
+-- past a judgement none was due
+pub passed : (a : Answer) (n : ℕ) → OneOf (0 ∷ []) (tagOf the-type a) → outcomeOf a ≡ verdict n → n ≡ 0
+passed a n k e = sym (ap (λ (o : Outcome). o .number) e) ∙ told-done a k
+
+-- a refusal stays due whatever rows come behind
+pub still-due : (a : Answer) (rows rest : List Row) → OneOf (1 ∷ []) (tagOf the-type a) → outcomeOf a ≡ verdict (first rows) → outcomeOf a ≡ verdict (first (rows ++ rest))
+still-due a rows rest k e = e ∙ ap verdict (sym (first-stop rows rest (λ z. told-refused a k (ap (λ (o : Outcome). o .number) e ∙ z))))
+
+-- past a judgement the rows behind decide
+pub next-due : (a : Answer) (rows rest : List Row) → lacks 0 rows ≡ true → OneOf (0 ∷ []) (tagOf the-type a) → outcomeOf a ≡ verdict (first rows)
+    → verdict (first rest) ≡ verdict (first (rows ++ rest))
+next-due a rows rest l k e = ap verdict (sym (first-pass rows rest l (passed a (first rows) k e)))
 
 -- ---- keys under the cipher
 

@@ -11,8 +11,6 @@ use lib.Dec.{eqb, ltb}
 use lib.ListN.{length, getD, take, drop, replicate, length-drop, drop-of-length-le}
 use lib.Seq.{take-all, take-append-le, take-append-add, drop-append-le, drop-append-add, drop-cons, length-take-le, take-at, drop-at}
 use borrow.Author.Tests.{eqb-true, eq-eqb, ne-eqb, ltb-false, lt-ltb, le-ltb, not-true, not-false}
-use types.Run.{OneOf}
-use denote.Enum.Declared.{tagOf}
 use Rattle.octets.specs.Octets.{both, put, part, same}
 use Rattle.octets.proofs.Strings.{part-to}
 use Rattle.octets.proofs.Tests.{both-left, both-right}
@@ -31,8 +29,7 @@ use Rattle.siv.specs.declared.Refusal.the-variants.{Forged}
 use Rattle.siv.specs.Answer.{Outcome, Row, row, pickNumber, first, outcomeOf, verdict}
 use Rattle.siv.specs.Calls.{isKeyLength, limit, headerRows}
 use Rattle.siv.specs.Siv.{macKey, ctrKey}
-use Rattle.siv.proofs.Answer.{the-type}
-use Rattle.siv.proofs.Laws.{not-due, first-not, first-pass, first-stop, told-done}
+use Rattle.siv.proofs.Laws.{not-due, first-not, first-pass, first-stop}
 use Rattle.stream.specs.declared.Step.{Step}
 use Rattle.stream.specs.declared.Stream.{Stream}
 use Rattle.stream.specs.State.{allZero, writtenLimit, fits, passedBlocks, tailOf, added, ended, start, tagOfState}
@@ -258,12 +255,6 @@ started key ss stage v {macs} {ctrs} {l} {d} {k} m c e f g =
     let E : List ℕ → List ℕ → List ℕ = cipher (length key / 2) in
     let l′ : l ≡ zeroCipher (E (roundKeys (macKey key))) = e ∙ ap (λ (w : List ℕ). zeroCipher (E w)) m in
     simp (m, c, l′, g ∙ ap₂ (λ (w : List ℕ) (j : Subkeys). headerResult (E w) j ss) m (f ∙ ap subkeys l′))
-
--- ---- which case a judgement is
-
--- past the refusals none was due
-pub passed : (a : Answer) (n : ℕ) → OneOf (0 ∷ []) (tagOf the-type a) → outcomeOf a ≡ verdict n → n ≡ 0
-passed a n k e = sym (ap (λ (o : Outcome). o .number) e) ∙ told-done a k
 
 -- ---- feed and finish
 

@@ -50,9 +50,13 @@ unfoldable pub beginSealer : List ℕ → List ℕ → List ℕ → Result
 beginSealer key bytes lens =
     settle (first (headerRows (length key) lens (length bytes))) (success 0 (start key (strings bytes lens) 1 zeros) []) ended []
 
+-- a tag has 16 bytes
+abbrev pub tagRows : ℕ → List Row
+tagRows tagLength = row 5 (not (eqb tagLength 16)) ∷ []
+
 -- the opener's refusals
 abbrev pub openerRows : ℕ → List ℕ → ℕ → ℕ → List Row
-openerRows keyLength lens headerLength tagLength = headerRows keyLength lens headerLength ++ (row 5 (not (eqb tagLength 16)) ∷ [])
+openerRows keyLength lens headerLength tagLength = headerRows keyLength lens headerLength ++ tagRows tagLength
 
 -- the opener's, with a tag
 unfoldable pub beginOpener : List ℕ → List ℕ → List ℕ → List ℕ → Result

@@ -1,13 +1,12 @@
 -- `siv::open` meets its contract.
 -- Assumes nothing.
-use borrow.Author.Needs.{needs}
 use mathlib.Core.Path.{_≡_, ap, sym, _∙_}
-use mathlib.Core.List.{List}
-use Prim.Native.Nat.{ℕ, _-_}
+use Prim.Native.Nat.{_-_}
 use native.Mathlib.Omega.{arith}
+use lib.ListN.{length-take}
+use borrow.Author.Needs.{needs}
 use Rattle.octets.specs.Octets.{put}
 use Rattle.siv.specs.Answer.{Outcome}
-use lib.ListN.{length, length-take}
 use Rattle.siv.proofs.Laws.{told-refused, told-done, openJudged, OpenAdmits, open-admits, open-refused, open-done, open-forged, text-read, scratch-wiped}
 use Rattle.siv.proofs.open.Statement.{statement}
 use Rattle.siv.proofs.open.Tie as tie

@@ -1,8 +1,8 @@
 -- `siv::judge::judge_header` meets its contract.
 -- Assumes nothing.
-use borrow.Author.Needs.{needs}
 use mathlib.Core.Path.{ap, sym, _∙_}
 use mathlib.Core.Bool.{not}
+use borrow.Author.Needs.{needs}
 use Rattle.siv.proofs.judge.judge_header.Statement.{statement}
 use Rattle.siv.proofs.judge.judge_header.Tie as tie
 

@@ -1,11 +1,9 @@
 -- `siv::judge::judge_plaintext` meets its contract.
 -- Assumes nothing.
-use borrow.Author.Needs.{needs}
 use mathlib.Core.Path.{subst}
-use Prim.Native.Nat.{ℕ, _<_}
-use borrow.Author.Tests.{lt-ltb, le-ltb}
-use mathlib.Core.Path.{sym, subst}
 use Prim.Native.Nat.{ℕ, _<_, _≤_}
+use borrow.Author.Needs.{needs}
+use borrow.Author.Tests.{lt-ltb, le-ltb}
 use Rattle.siv.proofs.judge.judge_plaintext.Statement.{statement}
 use Rattle.siv.proofs.judge.judge_plaintext.Tie as tie
 

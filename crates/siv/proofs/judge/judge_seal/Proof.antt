@@ -1,10 +1,9 @@
 -- `siv::judge::judge_seal` meets its contract.
 -- Assumes nothing.
+use mathlib.Core.Path.{refl, _∙_}
 use borrow.Author.Needs.{needs}
-use mathlib.Core.Path.{refl, ap, sym, _∙_}
-use Rattle.siv.specs.Answer.{Outcome, verdict}
 use Rattle.siv.specs.Calls.{headerRows, sealRows}
-use Rattle.siv.proofs.Laws.{first-pass, first-stop, told-refused, told-done}
+use Rattle.siv.proofs.Laws.{still-due, next-due}
 use Rattle.siv.proofs.judge.judge_seal.Statement.{statement}
 use Rattle.siv.proofs.judge.judge_seal.Tie as tie
 
@@ -17,10 +16,8 @@ enum-told c = search needs
 returns : tie.Need-returns
 returns c =
     let args = c .before .before .before .before .args in
-    let rows = headerRows (args .key-len) (args .lens .now) (args .header-len) in
-    let judged = c .before .before .judge-header .ensures in
-    let due = told-refused (c .before .before .judge-header .result) (c .before .match .keys1) in
-    judged ∙ ap verdict (sym (first-stop rows (sealRows (args .n) (args .output) (args .scratch)) (λ e. due (ap (λ (o : Outcome). o .number) judged ∙ e))))
+    still-due (c .before .before .judge-header .result) (headerRows (args .key-len) (args .lens .now) (args .header-len)) (sealRows (args .n) (args .output) (args .scratch)) (c .before .match .keys1)
+    (c .before .before .judge-header .ensures)
 
 enum-told-2 : tie.Need-enum-told-2
 enum-told-2 c = search needs
@@ -31,10 +28,9 @@ judge-plaintext-requires c κs = search needs
 returns-2 : tie.Need-returns-2
 returns-2 c =
     let args = c .before .before .before .before .before .args in
-    let rows = headerRows (args .key-len) (args .lens .now) (args .header-len) in
-    let judged = c .before .before .before .judge-header .ensures in
-    let none = sym (ap (λ (o : Outcome). o .number) judged) ∙ told-done (c .before .before .before .judge-header .result) (c .before .before .match .keys2) in
-    c .judge-plaintext .ensures ∙ ap verdict (sym (first-pass rows (sealRows (args .n) (args .output) (args .scratch)) refl none))
+    c .judge-plaintext .ensures
+    ∙ next-due (c .before .before .before .judge-header .result) (headerRows (args .key-len) (args .lens .now) (args .header-len)) (sealRows (args .n) (args .output) (args .scratch)) refl (c .before .before .match .keys2)
+    (c .before .before .before .judge-header .ensures)
 
 pub judge-seal-spec : {M : Type 1} → statement M
 judge-seal-spec =

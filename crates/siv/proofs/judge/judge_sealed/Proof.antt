@@ -1,8 +1,8 @@
 -- `siv::judge::judge_sealed` meets its contract.
 -- Assumes nothing.
-use borrow.Author.Needs.{needs}
 use mathlib.Core.Path.{subst}
 use Prim.Native.Nat.{ℕ, _<_, _≤_}
+use borrow.Author.Needs.{needs}
 use borrow.Author.Tests.{lt-ltb, le-ltb}
 use Rattle.siv.proofs.judge.judge_sealed.Statement.{statement}
 use Rattle.siv.proofs.judge.judge_sealed.Tie as tie

@@ -1,7 +1,7 @@
 -- `siv::work::half_keys` meets its contract.
 -- Assumes nothing.
-use borrow.Author.Needs.{needs}
 use mathlib.Core.Path.{ap, _∙_}
+use borrow.Author.Needs.{needs}
 use Rattle.aes.specs.declared.Expansion.{Expansion}
 use Rattle.siv.proofs.Laws.{expanded}
 use Rattle.siv.proofs.work.half_keys.Statement.{statement}

@@ -1,11 +1,8 @@
 -- `siv::work::open_admitted` meets its contract.
 -- Assumes nothing.
-use borrow.Author.Needs.{needs}
-use mathlib.Core.Path.{_≡_, ap, ap₂, _∙_}
-use mathlib.Core.List.{List}
-use Prim.Native.Nat.{ℕ}
+use mathlib.Core.Path.{ap, ap₂, _∙_}
 use native.Mathlib.Omega.{arith}
-use lib.ListN.{take}
+use borrow.Author.Needs.{needs}
 use Rattle.octets.specs.Octets.{put, same}
 use Rattle.octets.proofs.Strings.{part-rest}
 use Rattle.header.specs.Header.{strings}

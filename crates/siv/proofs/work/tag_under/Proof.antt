@@ -1,9 +1,9 @@
 -- `siv::work::tag_under` meets its contract.
 -- Assumes nothing.
-use borrow.Author.Needs.{needs}
 use mathlib.Core.Path.{ap, ap₂, _∙_}
 use mathlib.Core.List.{List}
 use Prim.Native.Nat.{ℕ}
+use borrow.Author.Needs.{needs}
 use Rattle.aes.specs.Cipher.{cipher}
 use Rattle.cmac.specs.declared.Subkeys.{Subkeys}
 use Rattle.cmac.specs.Cmac.{subkeys}

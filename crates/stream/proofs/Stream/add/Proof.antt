@@ -4,9 +4,9 @@ use mathlib.Core.Path.{_≡_, refl}
 use lib.ListN.{length}
 use borrow.Author.Needs.{needs}
 use Rattle.siv.specs.Answer.{first}
-use Rattle.siv.proofs.Laws.{told-refused}
+use Rattle.siv.proofs.Laws.{told-refused, passed}
 use Rattle.stream.specs.Steps.{addRows, addStep}
-use Rattle.stream.proofs.Laws.{refused, done, passed, add-admits}
+use Rattle.stream.proofs.Laws.{refused, done, add-admits}
 use Rattle.stream.proofs.Stream.add.Statement.{statement}
 use Rattle.stream.proofs.Stream.add.Tie as tie
 
@@ -27,7 +27,8 @@ enum-told-2 : tie.Need-enum-told-2
 enum-told-2 c = search needs
 
 absorb-requires : tie.Need-absorb-requires
-absorb-requires c κs = let a = add-admits _ _ (none (c .before)) in
+absorb-requires c κs =
+    let a = add-admits _ _ (none (c .before)) in
     (a .0 .width, a .1)
 
 returns-2 : tie.Need-returns-2

@@ -6,10 +6,10 @@ use lib.ListN.{length}
 use borrow.Author.Needs.{needs}
 use Rattle.header.specs.Header.{strings}
 use Rattle.siv.specs.Answer.{first}
-use Rattle.siv.proofs.Laws.{told-refused}
+use Rattle.siv.proofs.Laws.{told-refused, passed}
 use Rattle.stream.specs.State.{start}
 use Rattle.stream.specs.Steps.{openerRows, beginOpener}
-use Rattle.stream.proofs.Laws.{begin-refused, done, passed, opener-admits, whole-tag}
+use Rattle.stream.proofs.Laws.{begin-refused, done, opener-admits, whole-tag}
 use Rattle.stream.proofs.Stream.begin_opener.Statement.{statement}
 use Rattle.stream.proofs.Stream.begin_opener.Tie as tie
 
@@ -35,11 +35,13 @@ enum-told-2 : tie.Need-enum-told-2
 enum-told-2 c = search needs
 
 load-requires : tie.Need-load-requires
-load-requires c κs = let args = c .before .before .before .before .before .before .before .args in
+load-requires c κs =
+    let args = c .before .before .before .before .before .before .before .args in
     omega (arith, opener-admits (length (args .key .now)) (args .lens .now) (length (args .header .now)) (length (args .tag .now)) (none (c .before)) .1)
 
 start-requires : tie.Need-start-requires
-start-requires c κs = let args = c .before .before .before .before .before .before .before .before .args in
+start-requires c κs =
+    let args = c .before .before .before .before .before .before .before .before .args in
     opener-admits (length (args .key .now)) (args .lens .now) (length (args .header .now)) (length (args .tag .now)) (none (c .before .before)) .0
 
 returns-2 : tie.Need-returns-2

@@ -5,9 +5,9 @@ use lib.ListN.{length}
 use borrow.Author.Needs.{needs}
 use Rattle.siv.specs.Answer.{first}
 use Rattle.siv.specs.Calls.{headerRows}
-use Rattle.siv.proofs.Laws.{told-refused}
+use Rattle.siv.proofs.Laws.{told-refused, passed}
 use Rattle.stream.specs.Steps.{beginSealer}
-use Rattle.stream.proofs.Laws.{begin-refused, done, passed, header-admits}
+use Rattle.stream.proofs.Laws.{begin-refused, done, header-admits}
 use Rattle.stream.proofs.Stream.begin_sealer.Statement.{statement}
 use Rattle.stream.proofs.Stream.begin_sealer.Tie as tie
 

@@ -6,10 +6,10 @@ use native.Mathlib.Omega.{arith}
 use lib.ListN.{length, length-take, length-drop}
 use borrow.Author.Needs.{needs}
 use Rattle.siv.specs.Answer.{first}
-use Rattle.siv.proofs.Laws.{told-refused}
+use Rattle.siv.proofs.Laws.{told-refused, passed}
 use Rattle.stream.specs.State.{added}
 use Rattle.stream.specs.Steps.{streamedAt, feedRows, feedStep}
-use Rattle.stream.proofs.Laws.{refused, done, passed, feed-admits, length-streamedAt, read-back}
+use Rattle.stream.proofs.Laws.{refused, done, feed-admits, length-streamedAt, read-back}
 use Rattle.stream.proofs.Stream.feed.Statement.{statement}
 use Rattle.stream.proofs.Stream.feed.Tie as tie
 
@@ -32,11 +32,13 @@ enum-told-2 : tie.Need-enum-told-2
 enum-told-2 c = search needs
 
 stream-at-requires : tie.Need-stream-at-requires
-stream-at-requires c κs = let a = feed-admits _ _ _ (none (c .before .before)) in
+stream-at-requires c κs =
+    let a = feed-admits _ _ _ (none (c .before .before)) in
     (a .0 .width, omega (arith, a .2))
 
 add-absorb : tie.Need-add-absorb
-add-absorb c = let a = feed-admits _ _ _ (none (c .before .before .before .before .before)) in
+add-absorb c =
+    let a = feed-admits _ _ _ (none (c .before .before .before .before .before)) in
     omega (arith, a .1)
 
 sub-absorb : tie.Need-sub-absorb
@@ -46,11 +48,13 @@ part-absorb-start : tie.Need-part-absorb-start
 part-absorb-start c = search needs
 
 part-absorb-end : tie.Need-part-absorb-end
-part-absorb-end c = let a = feed-admits _ _ _ (none (c .before .before .before .before .before .before)) in
+part-absorb-end c =
+    let a = feed-admits _ _ _ (none (c .before .before .before .before .before .before)) in
     omega (arith, a .2, c .before .before .before .stream-at .kept .1 .1 .1 .0)
 
 absorb-requires : tie.Need-absorb-requires
-absorb-requires c κs = let a = feed-admits _ _ _ (none (c .before .before .before .before .before .before .before)) in
+absorb-requires c κs =
+    let a = feed-admits _ _ _ (none (c .before .before .before .before .before .before .before)) in
     (a .0 .width, simp (length-take, length-drop) (omega (arith, a .1)))
 
 same-length : tie.Need-same-length

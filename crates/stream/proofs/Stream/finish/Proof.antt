@@ -8,9 +8,9 @@ use lib.ListN.{length}
 use borrow.Author.Needs.{needs}
 use Rattle.octets.specs.Octets.{same}
 use Rattle.siv.specs.Answer.{first}
-use Rattle.siv.proofs.Laws.{told-refused}
+use Rattle.siv.proofs.Laws.{told-refused, passed}
 use Rattle.stream.specs.Steps.{finishRows}
-use Rattle.stream.proofs.Laws.{passed, finish-admits, finish-refused, finish-done, finish-forged}
+use Rattle.stream.proofs.Laws.{finish-admits, finish-refused, finish-done, finish-forged}
 use Rattle.stream.proofs.Stream.finish.Statement.{statement}
 use Rattle.stream.proofs.Stream.finish.Tie as tie
 
@@ -39,7 +39,8 @@ ended-requires : tie.Need-ended-requires
 ended-requires c κs = search needs
 
 returns-2 : tie.Need-returns-2
-returns-2 c = let s = c .before .before .before .before .before .before .before .before .before .args .self in
+returns-2 c =
+    let s = c .before .before .before .before .before .before .before .before .before .args .self in
     let agrees = sym (ap (λ (t : List ℕ). same t (s .v)) (c .before .before .before .make-tag .ensures)) ∙ sym (c .before .before .same-block .ensures) ∙ c .before .if1 .taken in
     finish-done s _ (none (c .before .before .before .before .before .before)) (c .ended .ensures) agrees
 
@@ -53,7 +54,8 @@ same-length : tie.Need-same-length
 same-length c = search needs
 
 returns-3 : tie.Need-returns-3
-returns-3 c = let s = c .before .before .before .before .before .before .before .before .before .before .before .before .before .args .self in
+returns-3 c =
+    let s = c .before .before .before .before .before .before .before .before .before .before .before .before .before .args .self in
     let differs = sym (ap (λ (t : List ℕ). same t (s .v)) (c .before .before .before .before .before .before .before .make-tag .ensures)) ∙ sym (c .before .before .before .before .before .before .same-block .ensures) ∙ c .before .before .before .before .before .if1 .left in
     finish-forged s _ (none (c .before .before .before .before .before .before .before .before .before .before)) (c .ended2 .ensures) _ differs (c .before .before .before .zero-at .ensures)
 

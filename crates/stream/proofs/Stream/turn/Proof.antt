@@ -5,9 +5,9 @@ use lib.ListN.{length}
 use borrow.Author.Needs.{needs}
 use Rattle.octets.specs.Octets.{put}
 use Rattle.siv.specs.Answer.{first}
-use Rattle.siv.proofs.Laws.{told-refused}
+use Rattle.siv.proofs.Laws.{told-refused, passed}
 use Rattle.stream.specs.Steps.{turnRows, turned, turnStep}
-use Rattle.stream.proofs.Laws.{refused, done, passed, turn-admits}
+use Rattle.stream.proofs.Laws.{refused, done, turn-admits}
 use Rattle.stream.proofs.Stream.turn.Statement.{statement}
 use Rattle.stream.proofs.Stream.turn.Tie as tie
 

@@ -5,9 +5,9 @@ use native.Mathlib.Omega.{arith}
 use lib.ListN.{length}
 use borrow.Author.Needs.{needs}
 use Rattle.siv.specs.Answer.{first}
-use Rattle.siv.proofs.Laws.{told-refused}
+use Rattle.siv.proofs.Laws.{told-refused, passed}
 use Rattle.stream.specs.Steps.{writeRows, writeStep}
-use Rattle.stream.proofs.Laws.{refused, done, passed, write-admits}
+use Rattle.stream.proofs.Laws.{refused, done, write-admits}
 use Rattle.stream.proofs.Stream.write.Statement.{statement}
 use Rattle.stream.proofs.Stream.write.Tie as tie
 
@@ -30,11 +30,13 @@ enum-told-2 : tie.Need-enum-told-2
 enum-told-2 c = search needs
 
 stream-at-requires : tie.Need-stream-at-requires
-stream-at-requires c κs = let a = write-admits _ _ _ (none (c .before .before)) in
+stream-at-requires c κs =
+    let a = write-admits _ _ _ (none (c .before .before)) in
     (a .0 .width, omega (arith, a .2))
 
 add-self : tie.Need-add-self
-add-self c = let a = write-admits _ _ _ (none (c .before .before .before .before .before .before)) in
+add-self c =
+    let a = write-admits _ _ _ (none (c .before .before .before .before .before .before)) in
     omega (arith, a .0 .total, a .1)
 
 same-length : tie.Need-same-length

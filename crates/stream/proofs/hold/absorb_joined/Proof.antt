@@ -20,7 +20,8 @@ encrypt-requires : tie.Need-encrypt-requires
 encrypt-requires c κs = search needs
 
 returns : tie.Need-returns
-returns c = let args = c .before .before .before .before .before .args in
+returns c =
+    let args = c .before .before .before .before .before .args in
     c .encrypt .ensures ∙ ap (cipher (args .width) (args .keys .now)) (c .before .xor-block .ensures ∙ ap (xors (args .c)) (c .before .before .load-joined .ensures))
 
 pub absorb-joined-spec : {M : Type 1} → statement M

@@ -34,7 +34,8 @@ loop-again : tie.Need-loop-again Inv-loop μ-loop
 loop-again c = (omega arith, chain-more _ _ _ _ (c .before .before .loop .inv .1) (c .absorb-joined .ensures))
 
 returns : tie.Need-returns Inv-loop μ-loop
-returns c = let done : c .before .loop .i ≡ c .before .before .before .before .args .n = omega arith in
+returns c =
+    let done : c .before .loop .i ≡ c .before .before .before .before .args .n = omega arith in
     c .before .loop .inv .1 ∙ ap (chain _ _ _) done
 
 pub chain-joined-spec : {M : Type 1} → statement M

@@ -34,7 +34,8 @@ same-length : tie.Need-same-length
 same-length c = search needs
 
 returns : tie.Need-returns
-returns c = let args = c .before .before .before .before .before .before .before .before .before .args in
+returns c =
+    let args = c .before .before .before .before .before .before .before .before .before .args in
     let a = args .a .now in
     let b = args .b .now in
     c .before .before .copy-at .ensures
@@ -62,7 +63,8 @@ same-length-2 : tie.Need-same-length-2
 same-length-2 c = search needs
 
 returns-2 : tie.Need-returns-2
-returns-2 c = let args = c .before .before .before .before .before .before .before .before .before .before .args in
+returns-2 c =
+    let args = c .before .before .before .before .before .before .before .before .before .before .args in
     let a = args .a .now in
     let b = args .b .now in
     c .before .before .copy-at2 .ensures
@@ -93,7 +95,8 @@ same-length-3 : tie.Need-same-length-3
 same-length-3 c = search needs
 
 returns-3 : tie.Need-returns-3
-returns-3 c = let args = c .before .before .before .before .before .before .before .before .before .before .before .before .before .before .before .args in
+returns-3 c =
+    let args = c .before .before .before .before .before .before .before .before .before .before .before .before .before .before .before .args in
     let a = args .a .now in
     let b = args .b .now in
     let dst = args .dst .now in

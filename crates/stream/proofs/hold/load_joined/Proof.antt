@@ -17,7 +17,8 @@ load-requires : tie.Need-load-requires
 load-requires c κs = search needs
 
 returns : tie.Need-returns
-returns c = let args = c .before .before .before .before .args in
+returns c =
+    let args = c .before .before .before .before .args in
     c .load .ensures ∙ sym (part-right (args .a .now) (args .b .now) (args .at) 16 (omega arith))
 
 slice-aggregate-copy-joined : tie.Need-slice-aggregate-copy-joined
@@ -27,7 +28,8 @@ copy-joined-requires : tie.Need-copy-joined-requires
 copy-joined-requires c κs = search needs
 
 returns-2 : tie.Need-returns-2
-returns-2 c = let args = c .before .before .before .before .before .before .args in
+returns-2 c =
+    let args = c .before .before .before .before .before .before .args in
     c .before .copy-joined .ensures ∙ put-all _ _ (length-part (args .a .now ++ args .b .now) (args .at) 16 (simp length-append (omega arith)))
 
 pub load-joined-spec : {M : Type 1} → statement M

@@ -17,7 +17,8 @@ copy-joined-requires : tie.Need-copy-joined-requires
 copy-joined-requires c κs = search needs
 
 returns : tie.Need-returns
-returns c = let args = c .before .before .before .before .before .args in
+returns c =
+    let args = c .before .before .before .before .before .args in
     c .before .copy-joined .ensures
     ∙ ap (put (replicate 31 0) 0) (take-all (args .n) (drop (args .at) (args .a .now ++ args .b .now)) (simp (length-drop, length-append) (omega arith)))
 

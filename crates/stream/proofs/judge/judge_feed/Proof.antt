@@ -24,7 +24,8 @@ returns-2 : tie.Need-returns-2
 returns-2 c = simp (sym (ap not (c .before .before .before .fits2 .ensures)) ∙ c .before .before .if1 .left, sym (c .before .passes .ensures) ∙ c .if2 .taken)
 
 add-if3 : tie.Need-add-if3
-add-if3 c = let args = c .before .before .before .before .before .args in
+add-if3 c =
+    let args = c .before .before .before .before .before .args in
     omega (arith, ltb-false limit (args .s .total + args .n) (sym (c .before .before .passes .ensures) ∙ c .before .if2 .left))
 
 returns-3 : tie.Need-returns-3

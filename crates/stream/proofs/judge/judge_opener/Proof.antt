@@ -1,14 +1,13 @@
 -- `stream::judge::judge_opener` meets its contract.
 -- Assumes nothing.
-use mathlib.Core.Path.{refl, ap, sym, _∙_}
-use mathlib.Core.Bool.{not}
-use mathlib.Core.List.{[], _∷_}
-use lib.Dec.{eqb}
+use mathlib.Core.Path.{_≡_, refl, ap, sym, _∙_}
+use mathlib.Core.Bool.{Bool, not}
 use borrow.Author.Needs.{needs}
 use borrow.Author.Tests.{eq-eqb, ne-eqb}
-use Rattle.siv.specs.Answer.{Outcome, row, verdict}
+use Rattle.siv.specs.Answer.{pickNumber, first, verdict}
 use Rattle.siv.specs.Calls.{headerRows}
-use Rattle.siv.proofs.Laws.{told-refused, told-done, first-stop, first-pass}
+use Rattle.siv.proofs.Laws.{still-due, next-due}
+use Rattle.stream.specs.Steps.{tagRows, openerRows}
 use Rattle.stream.proofs.judge.judge_opener.Statement.{statement}
 use Rattle.stream.proofs.judge.judge_opener.Tie as tie
 
@@ -19,24 +18,27 @@ enum-told : tie.Need-enum-told
 enum-told c = search needs
 
 returns : tie.Need-returns
-returns c = let args = c .before .before .before .before .args in
-    let rows = headerRows (args .key-len) (args .lens .now) (args .header-len) in
-    let judged = c .before .before .judge-header .ensures in
-    let due = told-refused (c .before .before .judge-header .result) (c .before .match .keys1) in
-    judged ∙ ap verdict (sym (first-stop rows (row 5 (not (eqb (args .tag-len) 16)) ∷ []) (λ e. due (ap (λ (o : Outcome). o .number) judged ∙ e))))
+returns c =
+    let args = c .before .before .before .before .args in
+    still-due (c .before .before .judge-header .result) (headerRows (args .key-len) (args .lens .now) (args .header-len)) (tagRows (args .tag-len)) (c .before .match .keys1)
+    (c .before .before .judge-header .ensures)
 
 enum-told-2 : tie.Need-enum-told-2
 enum-told-2 c = search needs
 
+-- past the header the tag's length decides
+by-tag : (c : tie.At-match-keys2)
+    → let args = c .before .before .before .args in
+    verdict (first (tagRows (args .tag-len))) ≡ verdict (first (openerRows (args .key-len) (args .lens .now) (args .header-len) (args .tag-len)))
+by-tag c =
+    let args = c .before .before .before .args in
+    next-due (c .before .judge-header .result) (headerRows (args .key-len) (args .lens .now) (args .header-len)) (tagRows (args .tag-len)) refl (c .match .keys2) (c .before .judge-header .ensures)
+
 returns-2 : tie.Need-returns-2
-returns-2 c = let args = c .before .before .before .before .before .args in
-    let none = sym (ap (λ (o : Outcome). o .number) (c .before .before .before .judge-header .ensures)) ∙ told-done (c .before .before .before .judge-header .result) (c .before .before .match .keys2) in
-    sym (ap verdict (first-pass (headerRows (args .key-len) (args .lens .now) (args .header-len)) (row 5 (not (eqb (args .tag-len) 16)) ∷ []) refl none ∙ simp (eq-eqb _ _ (c .if1 .taken))))
+returns-2 c = ap (λ (t : Bool). verdict (pickNumber (not t) 5 0)) (sym (eq-eqb _ _ (c .if1 .taken))) ∙ by-tag (c .before .before)
 
 returns-3 : tie.Need-returns-3
-returns-3 c = let args = c .before .before .before .before .before .args in
-    let none = sym (ap (λ (o : Outcome). o .number) (c .before .before .before .judge-header .ensures)) ∙ told-done (c .before .before .before .judge-header .result) (c .before .before .match .keys2) in
-    sym (ap verdict (first-pass (headerRows (args .key-len) (args .lens .now) (args .header-len)) (row 5 (not (eqb (args .tag-len) 16)) ∷ []) refl none ∙ simp (ne-eqb _ _ (c .if1 .left))))
+returns-3 c = ap (λ (t : Bool). verdict (pickNumber (not t) 5 0)) (sym (ne-eqb _ _ (c .if1 .left))) ∙ by-tag (c .before .before)
 
 pub judge-opener-spec : {M : Type 1} → statement M
 judge-opener-spec =

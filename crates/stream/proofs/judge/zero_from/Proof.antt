@@ -23,7 +23,8 @@ shared-slice-read-if1 : tie.Need-shared-slice-read-if1 Inv-loop μ-loop
 shared-slice-read-if1 c = search needs
 
 returns : tie.Need-returns Inv-loop μ-loop
-returns c = let args = c .before .before .before .before .args in
+returns c =
+    let args = c .before .before .before .before .args in
     let i = c .before .before .before .loop .i in
     sym (c .before .before .before .loop .inv ∙ zero-stop (args .s .now) i (omega arith) (c .if1 .taken))
 
@@ -34,12 +35,14 @@ loop-less : tie.Need-loop-less Inv-loop μ-loop
 loop-less c = search needs
 
 loop-again : tie.Need-loop-again Inv-loop μ-loop
-loop-again c = let args = c .before .before .before .before .args in
+loop-again c =
+    let args = c .before .before .before .before .args in
     let i = c .before .before .before .loop .i in
     c .before .before .before .loop .inv ∙ zero-more (args .s .now) i (omega arith) (c .if1 .left)
 
 returns-2 : tie.Need-returns-2 Inv-loop μ-loop
-returns-2 c = let args = c .before .before .args in
+returns-2 c =
+    let args = c .before .before .args in
     sym (c .before .loop .inv ∙ zero-end (args .s .now) (c .before .loop .i) (omega arith))
 
 pub zero-from-spec : {M : Type 1} → statement M

@@ -32,11 +32,13 @@ part-tag-from-start : tie.Need-part-tag-from-start
 part-tag-from-start c = search needs
 
 part-tag-from-end : tie.Need-part-tag-from-end
-part-tag-from-end c = let args = c .before .before .before .before .before .before .before .before .before .before .before .args in
+part-tag-from-end c =
+    let args = c .before .before .before .before .before .before .before .before .before .before .before .args in
     omega (arith, tail-length (c .before .before .before .before .before .before .before .before .before .before .before), cut (args .s .total), c .before .before .before .before .tail-len .ensures)
 
 tag-from-requires : tie.Need-tag-from-requires
-tag-from-requires c κs = let args = c .before .before .before .before .before .before .before .before .before .before .before .before .args in
+tag-from-requires c κs =
+    let args = c .before .before .before .before .before .before .before .before .before .before .before .before .args in
     (search needs, c .before .before .before .before .before .before .before .before .before .before .before .before .pre, simp length-take (omega (arith, tail-length (c .before .before .before .before .before .before .before .before .before .before .before .before))))
 
 returns : tie.Need-returns

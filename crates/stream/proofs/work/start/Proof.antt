@@ -27,7 +27,8 @@ part-half-keys-end : tie.Need-part-half-keys-end
 part-half-keys-end c = search needs
 
 half-keys-requires : tie.Need-half-keys-requires
-half-keys-requires c κs = let key = c .before .before .before .before .before .before .args .key .now in
+half-keys-requires c κs =
+    let key = c .before .before .before .before .before .before .args .key .now in
     let h : KeyHalves (length key) = halves _ (c .before .before .before .before .before .before .pre .0) in
     let long : length (take (length key / 2 - 0) key) ≡ length key / 2 = simp length-take (omega arith) in
     (search needs, ap isWidth long ∙ h .half)
@@ -42,7 +43,8 @@ part-half-keys-end-2 : tie.Need-part-half-keys-end-2
 part-half-keys-end-2 c = search needs
 
 half-keys-requires-2 : tie.Need-half-keys-requires-2
-half-keys-requires-2 c κs = let key = c .before .before .before .before .before .before .before .before .before .args .key .now in
+half-keys-requires-2 c κs =
+    let key = c .before .before .before .before .before .before .before .before .before .args .key .now in
     let h : KeyHalves (length key) = halves _ (c .before .before .before .before .before .before .before .before .before .pre .0) in
     let long : length (drop (length key / 2) key) ≡ length key / 2 = simp length-drop (omega arith) in
     (search needs, ap (λ (l : List ℕ). isWidth (length l)) (part-rest key (length key / 2)) ∙ ap isWidth long ∙ h .half)
@@ -57,7 +59,8 @@ make-header-result-requires : tie.Need-make-header-result-requires
 make-header-result-requires c κs = (search needs, halves _ (c .before .before .before .before .before .before .before .before .before .before .before .before .before .before .before .before .pre .0) .most, c .before .before .before .before .before .before .before .before .before .before .before .before .before .before .before .before .pre .1)
 
 returns : tie.Need-returns
-returns c = let key = c .before .before .before .before .before .before .before .before .before .before .before .before .before .before .before .before .before .args .key .now in
+returns c =
+    let key = c .before .before .before .before .before .before .before .before .before .before .before .before .before .before .before .before .before .args .key .now in
     let front : length key / 2 - 0 ≡ length key / 2 = omega arith in
     started key _ _ _ (c .before .before .before .before .before .before .before .before .before .before .half-keys .ensures ∙ ap (λ (n : ℕ). roundKeys (take n key)) front) (c .before .before .before .before .before .before .before .half-keys2 .ensures ∙ ap roundKeys (part-rest key (length key / 2)))
     (c .before .before .before .before .zero-cipher .ensures) (c .before .make-subkeys .ensures) (c .make-header-result .ensures)
