@@ -1,9 +1,10 @@
 # make test: all tests, ending in rt ci's 'N passed, 0 failed'.
 # make lib: build/libkinphlor.a and build/kinphlor.h.
+# make demo: lane records sealed, laid out byte by byte and opened.
 SHELL := /bin/bash
 .SHELLFLAGS := -eu -o pipefail -c
 .DEFAULT_GOAL := test
-.PHONY: test lib
+.PHONY: test lib demo
 
 test:
 	@mkdir -p build
@@ -17,5 +18,9 @@ lib:
 	rt staticlib kinphlor
 	cp target/staticlib/libkinphlor.a include/kinphlor.h build/
 
-# Tests of the archive from Rust and C: host-test.
+demo: lib
+	$(call host_cc,demo,host/demo/demo.c)
+	@$(HOST_OUT)/demo
+
+# Programs over the archive, and host-test, their tests.
 include host/Makefile
