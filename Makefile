@@ -1,11 +1,12 @@
 # make test: all tests, ending in rt ci's 'N passed, 0 failed'.
 # make lib: build/libkinphlor.a and build/kinphlor.h.
 # make demo: lane records sealed, laid out byte by byte and opened.
+# make bench: times beside OpenSSL's and libgcrypt's, stack and instructions; writes docs/BENCHMARKS.md.
 # make install: libkinphlor.a, kinphlor.h and kinphlor.pc below PREFIX; DESTDIR is put before it.
 SHELL := /bin/bash
 .SHELLFLAGS := -eu -o pipefail -c
 .DEFAULT_GOAL := test
-.PHONY: test lib demo install install-files
+.PHONY: test lib demo bench install install-files
 
 PREFIX ?= /usr/local
 # kinphlor.pc holds it, so it is made absolute.
@@ -30,6 +31,10 @@ lib:
 demo: lib
 	$(call host_cc,demo,host/demo/demo.c)
 	@$(HOST_OUT)/demo
+
+bench: lib
+	@$(MAKE) --no-print-directory host-stack host-bench
+	@$(HOST_OUT)/bench
 
 install: lib
 	@$(MAKE) --no-print-directory install-files
