@@ -1,5 +1,5 @@
 #!/usr/bin/env bash
-# make install into a temporary directory, and README's examples built and run over what it put there.
+# make install into a temporary directory, and the examples built and run over what it put there.
 set -eu -o pipefail
 dir=$(mktemp -d)
 trap 'rm -rf "$dir"' EXIT
@@ -9,15 +9,6 @@ fail() {
     echo "install: FAILED: $1" >&2
     exit 1
 }
-
-# same LANGUAGE FILE: README has one block of code in the language, and it is the file's text.
-same() {
-    awk -v fence='```' -v first="\`\`\`$1" '$0 == fence { on = 0 } on; $0 == first { on = 1 }' README.md |
-        diff - "$2" || fail "README's example in $1 is not $2"
-}
-
-same c host/c/example.c
-same rust host/rust/example.rs
 
 # DESTDIR is where files are put, and no part of what they say.
 "$make" --no-print-directory -s install-files DESTDIR="$dir/stage" PREFIX=/opt/kinphlor
@@ -40,4 +31,4 @@ ${CC:-cc} -std=c99 -Wall -Wextra -Wpedantic -Werror -o "$dir/example_c" host/c/e
 
 rustc -D warnings -L native="$dir/prefix/lib" -o "$dir/example_rust" host/rust/example.rs
 "$dir/example_rust" | grep -q '^sealed: \[' || fail "the example in Rust"
-echo "install: README's examples run over what make install put down (C by $by)"
+echo "install: the examples in C and Rust run over what make install put down (C by $by)"
