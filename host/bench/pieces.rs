@@ -1,12 +1,18 @@
 //! The place for sealing in pieces against the whole call.
 
-use crate::table::Table;
+use crate::table::{grouped, Table};
 
 /// The lengths of a piece.
-const PIECES: [&str; 3] = ["pieces of 16", "pieces of 64", "pieces of 4,096"];
+const PIECES: [u64; 3] = [16, 64, 4096];
 
-/// A row for each length of a plaintext: the time in pieces over the whole call's. It is empty while there is no archive
-/// with the piecewise calls (target/staticlib/libprobe.a), and then no table is printed.
+/// A row for each key and plaintext: their lengths, then for each length of a piece the time in pieces over that of the
+/// whole call. There is none while there is no archive with the piecewise calls (target/staticlib/libprobe.a).
+fn rows() -> Vec<Vec<String>> {
+    vec![]
+}
+
+/// The table, which is shown only if it has rows.
 pub fn table() -> Table {
-    Table::new(&[&["key", "bytes"][..], &PIECES].concat())
+    let pieces = PIECES.map(|len| format!("pieces of {}", grouped(len)));
+    Table { head: [&["key", "bytes"].map(String::from)[..], &pieces].concat(), rows: rows() }
 }
