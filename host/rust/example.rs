@@ -7,7 +7,7 @@ unsafe extern "C" {
 }
 
 fn main() {
-    let (key, header, record) = ([7u8; 32], *b"lane 7: record 1", [1u8; 40]);
+    let (key, header, record) = (*b"a key for show, not for real use", *b"lane 7: record 1", [1u8; 40]);
     let (mut sealed, mut scratch) = ([0u8; 56], [0u8; 40]);
     // Arrays are valid for their lengths and never null, and the two that are written overlap no other.
     let result = unsafe {
