@@ -1,15 +1,14 @@
 //! What is run: records against both peers, damage, the table of answers, and tags chosen by their end.
 
-use crate::check;
 use crate::chosen;
-use crate::library::{Args, Function, LIMIT, TAG_LEN};
-use crate::peers::{Libcrypto, Libgcrypt, Peer};
-use crate::random::Random;
+use shared::check;
+use shared::library::{Args, Function, KEY_LENS, LIMIT, TAG_LEN};
+use shared::peers::{Libcrypto, Libgcrypt, Peer};
+use shared::random::Random;
 use std::collections::BTreeSet;
 use std::sync::OnceLock;
 use Function::{Open, Seal};
 
-const KEY_LENS: [usize; 3] = [32, 48, 64];
 const AD_LENS: [usize; 5] = [0, 1, 15, 16, 17];
 const NONCE_LENS: [usize; 4] = [1, 15, 16, 17];
 

@@ -1,12 +1,9 @@
 //! libkinphlor.a against OpenSSL's libcrypto and libgcrypt. Its last line is `host: N checks passed`.
 
 mod cases;
-mod check;
 mod chosen;
-mod library;
-mod peers;
-mod random;
 
+use shared::{check, peers, random};
 use std::time::Instant;
 
 /// Any seed will do; HOST_SEED sets another.

@@ -8,11 +8,27 @@ use std::ptr::{null, null_mut};
 /// An implementation of AES-SIV over any list of header strings.
 pub trait Peer {
     fn name(&self) -> &'static str;
+    fn version(&self) -> String;
+    /// What it says of the machine's instructions that it uses.
+    fn instructions(&self) -> String;
     /// Whether it can seal and open a plaintext of n bytes.
     fn takes(&self, n: usize) -> bool;
-    fn seal(&self, key: &[u8], header: &[&[u8]], plain: &[u8]) -> Vec<u8>;
+    /// Fills `sealed`, which is 16 bytes longer than `plain`.
+    fn seal_to(&self, key: &[u8], header: &[&[u8]], plain: &[u8], sealed: &mut [u8]);
+    /// Fills `plain`, which is 16 bytes shorter than `sealed`; false for a forged string.
+    fn open_to(&self, key: &[u8], header: &[&[u8]], sealed: &[u8], plain: &mut [u8]) -> bool;
+
+    fn seal(&self, key: &[u8], header: &[&[u8]], plain: &[u8]) -> Vec<u8> {
+        let mut sealed = vec![0; TAG_LEN + plain.len()];
+        self.seal_to(key, header, plain, &mut sealed);
+        sealed
+    }
+
     /// The plaintext, or none for a forged string.
-    fn open(&self, key: &[u8], header: &[&[u8]], sealed: &[u8]) -> Option<Vec<u8>>;
+    fn open(&self, key: &[u8], header: &[&[u8]], sealed: &[u8]) -> Option<Vec<u8>> {
+        let mut plain = vec![0; sealed.len() - TAG_LEN];
+        self.open_to(key, header, sealed, &mut plain).then_some(plain)
+    }
 }
 
 unsafe extern "C" {
@@ -26,9 +42,13 @@ unsafe extern "C" {
     ) -> c_int;
     fn EVP_CipherUpdate(ctx: *mut c_void, out: *mut u8, out_len: *mut c_int, input: *const u8, len: c_int) -> c_int;
     fn EVP_CipherFinal_ex(ctx: *mut c_void, out: *mut u8, out_len: *mut c_int) -> c_int;
+    fn OpenSSL_version(what: c_int) -> *const c_char;
+    fn OPENSSL_info(what: c_int) -> *const c_char;
 
     fn gcry_check_version(needed: *const c_char) -> *const c_char;
     fn gcry_control(command: c_int, ...) -> c_uint;
+    fn gcry_get_config(mode: c_int, what: *const c_char) -> *mut c_char;
+    fn gcry_free(memory: *mut c_void);
     fn gcry_cipher_open(handle: *mut *mut c_void, algorithm: c_int, mode: c_int, flags: c_uint) -> c_uint;
     fn gcry_cipher_close(handle: *mut c_void);
     fn gcry_cipher_ctl(handle: *mut c_void, command: c_int, buffer: *mut c_void, len: usize) -> c_uint;
@@ -41,6 +61,16 @@ unsafe extern "C" {
 
 const EVP_CTRL_AEAD_GET_TAG: c_int = 0x10;
 const EVP_CTRL_AEAD_SET_TAG: c_int = 0x11;
+const OPENSSL_VERSION: c_int = 0;
+const OPENSSL_INFO_CPU_SETTINGS: c_int = 1008;
+
+/// A C string of a peer's, which may be null.
+fn text(string: *const c_char) -> String {
+    if string.is_null() {
+        return String::new();
+    }
+    unsafe { CStr::from_ptr(string) }.to_string_lossy().trim().to_string()
+}
 
 /// The three widths in a table's order, by the bytes of one half of the key.
 fn width_index(half: usize) -> usize {
@@ -88,7 +118,13 @@ impl Drop for Evp {
     }
 }
 
-/// A peer that refuses what it should take ends the test.
+/// Room for a tag and for a text of n bytes.
+fn split(sealed: &mut [u8], n: usize) -> (&mut [u8], &mut [u8]) {
+    assert_eq!(sealed.len(), TAG_LEN + n);
+    sealed.split_at_mut(TAG_LEN)
+}
+
+/// A peer that refuses what it should take ends the program.
 fn need(what: &str, done: bool) {
     if !done {
         fail(format!("a peer's {what} failed"));
@@ -142,30 +178,37 @@ impl Peer for Libcrypto {
         "libcrypto"
     }
 
+    fn version(&self) -> String {
+        text(unsafe { OpenSSL_version(OPENSSL_VERSION) })
+    }
+
+    fn instructions(&self) -> String {
+        text(unsafe { OPENSSL_info(OPENSSL_INFO_CPU_SETTINGS) })
+    }
+
     fn takes(&self, n: usize) -> bool {
         n > 0
     }
 
-    fn seal(&self, key: &[u8], header: &[&[u8]], plain: &[u8]) -> Vec<u8> {
+    fn seal_to(&self, key: &[u8], header: &[&[u8]], plain: &[u8], sealed: &mut [u8]) {
         let evp = self.with_header(key, header, true);
-        let mut sealed = vec![0; TAG_LEN + plain.len()];
-        let (tag, text) = sealed.split_at_mut(TAG_LEN);
+        let (tag, text) = split(sealed, plain.len());
         need("EVP_CipherUpdate", evp.update(plain, text.as_mut_ptr()) && evp.finish());
         need("EVP_CTRL_AEAD_GET_TAG", evp.tag(EVP_CTRL_AEAD_GET_TAG, tag.as_mut_ptr()));
-        sealed
     }
 
-    fn open(&self, key: &[u8], header: &[&[u8]], sealed: &[u8]) -> Option<Vec<u8>> {
+    fn open_to(&self, key: &[u8], header: &[&[u8]], sealed: &[u8], plain: &mut [u8]) -> bool {
         let evp = self.with_header(key, header, false);
         let (tag, text) = sealed.split_at(TAG_LEN);
-        let mut plain = vec![0; text.len()];
+        assert_eq!(plain.len(), text.len());
         need("EVP_CTRL_AEAD_SET_TAG", evp.tag(EVP_CTRL_AEAD_SET_TAG, tag.as_ptr()));
-        (evp.update(text, plain.as_mut_ptr()) && evp.finish()).then_some(plain)
+        evp.update(text, plain.as_mut_ptr()) && evp.finish()
     }
 }
 
 const GCRYCTL_DISABLE_SECMEM: c_int = 37;
 const GCRYCTL_INITIALIZATION_FINISHED: c_int = 38;
+const GCRYCTL_DISABLE_HWF: c_int = 63;
 const GCRYCTL_SET_DECRYPTION_TAG: c_int = 80;
 const GCRY_CIPHER_AES: [c_int; 3] = [7, 8, 9];
 const GCRY_CIPHER_MODE_SIV: c_int = 15;
@@ -203,7 +246,16 @@ impl Drop for Gcry {
 
 impl Libgcrypt {
     pub fn new() -> Libgcrypt {
+        Libgcrypt::without(c"")
+    }
+
+    /// Without some of the machine's instructions, by libgcrypt's names with commas between them, or all.
+    pub fn without(instructions: &CStr) -> Libgcrypt {
         unsafe {
+            if !instructions.is_empty() {
+                let error = gcry_control(GCRYCTL_DISABLE_HWF, instructions.as_ptr(), null::<c_char>());
+                need("GCRYCTL_DISABLE_HWF", error == 0);
+            }
             need("gcry_check_version (1.10 is needed)", !gcry_check_version(c"1.10.0".as_ptr()).is_null());
             need("gcry_control", gcry_control(GCRYCTL_DISABLE_SECMEM, 0 as c_int) == 0);
             need("gcry_control", gcry_control(GCRYCTL_INITIALIZATION_FINISHED, 0 as c_int) == 0);
@@ -217,32 +269,43 @@ impl Peer for Libgcrypt {
         "libgcrypt"
     }
 
+    fn version(&self) -> String {
+        format!("libgcrypt {}", text(unsafe { gcry_check_version(null()) }))
+    }
+
+    fn instructions(&self) -> String {
+        unsafe {
+            let list = gcry_get_config(0, c"hwflist".as_ptr());
+            let copy = text(list);
+            gcry_free(list as *mut c_void);
+            copy
+        }
+    }
+
     fn takes(&self, _n: usize) -> bool {
         true
     }
 
-    fn seal(&self, key: &[u8], header: &[&[u8]], plain: &[u8]) -> Vec<u8> {
+    fn seal_to(&self, key: &[u8], header: &[&[u8]], plain: &[u8], sealed: &mut [u8]) {
         let gcry = Gcry::new(key, header);
-        let mut sealed = vec![0; TAG_LEN + plain.len()];
-        let (tag, text) = sealed.split_at_mut(TAG_LEN);
+        let (tag, text) = split(sealed, plain.len());
         unsafe {
             let error = gcry_cipher_encrypt(gcry.0, text.as_mut_ptr(), text.len(), plain.as_ptr(), plain.len());
             need("gcry_cipher_encrypt", error == 0);
             need("gcry_cipher_gettag", gcry_cipher_gettag(gcry.0, tag.as_mut_ptr(), TAG_LEN) == 0);
         }
-        sealed
     }
 
-    fn open(&self, key: &[u8], header: &[&[u8]], sealed: &[u8]) -> Option<Vec<u8>> {
+    fn open_to(&self, key: &[u8], header: &[&[u8]], sealed: &[u8], plain: &mut [u8]) -> bool {
         let gcry = Gcry::new(key, header);
         let (tag, text) = sealed.split_at(TAG_LEN);
-        let mut plain = vec![0; text.len()];
+        assert_eq!(plain.len(), text.len());
         let error = unsafe {
             let error = gcry_cipher_ctl(gcry.0, GCRYCTL_SET_DECRYPTION_TAG, tag.as_ptr() as *mut c_void, TAG_LEN);
             need("GCRYCTL_SET_DECRYPTION_TAG", error == 0);
             gcry_cipher_decrypt(gcry.0, plain.as_mut_ptr(), plain.len(), text.as_ptr(), text.len())
         };
         need("gcry_cipher_decrypt", error == 0 || error & GPG_ERR_CODE == GPG_ERR_CHECKSUM);
-        (error == 0).then_some(plain)
+        error == 0
     }
 }

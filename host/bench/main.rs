@@ -1,0 +1,41 @@
+//! libkinphlor.a beside OpenSSL's and libgcrypt's AES-SIV: times, the stack of a call, and its instructions. It prints
+//! the tables and writes docs/BENCHMARKS.md. Run by make bench, from the repository's root.
+
+mod callgrind;
+mod machine;
+mod measure;
+mod pieces;
+mod report;
+mod table;
+mod timing;
+
+use report::Report;
+use timing::MODES;
+
+/// With the name of a mode, the child that measures in it.
+fn main() {
+    match std::env::args().nth(1) {
+        None => bench(),
+        Some(name) => match MODES.iter().find(|mode| mode.name == name) {
+            Some(mode) => measure::child(mode),
+            None => shared::check::fail(format!("no mode has the name {name}")),
+        },
+    }
+}
+
+fn bench() {
+    let mut report = Report::new();
+    report.section("Machine", machine::describe());
+    let runs: Vec<timing::Run> = MODES.iter().map(timing::run).collect();
+    report.section("Targets", timing::targets(&runs));
+    for run in &runs {
+        report.section(run.mode.title, run.describe());
+    }
+    report.section("Stack", machine::stack("target/host/stack"));
+    report.section("Instructions", callgrind::describe("target/host/once"));
+    let pieces = pieces::table();
+    if !pieces.rows.is_empty() {
+        report.section("Pieces against the whole call", pieces.to_string());
+    }
+    report.write("docs/BENCHMARKS.md");
+}
