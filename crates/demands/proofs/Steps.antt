@@ -328,7 +328,7 @@ module _ (key bytes lens shared : List ℕ) (a : Admits key bytes lens) where
     unfolding genuine SF y
     genuine-fed = ap₂ same (tag-state key ss (a .keyed) 3 T 0 P ∙ ap (tagOf key ss) (sym opened-fed)) (sym front)
 
-    pub accepts-genuine : accepts key bytes lens (opener T) shared T A ≡ genuine key (strings bytes lens) (T ++ A)
+    pub accepts-genuine : accepts key bytes lens T A ≡ genuine key (strings bytes lens) (T ++ A)
     unfolding accepts
     accepts-genuine =
         let room : List ℕ = replicate (length A) 0 in
@@ -359,7 +359,7 @@ module _ (key bytes lens shared : List ℕ) (a : Admits key bytes lens) where
     unfolding finishStep modelStep SF ss bF P o
     finish-step = go (genuine key (strings bytes lens) (T ++ A)) genuine-fed accepts-genuine
       where
-        go : (t : Bool) → same (tagOfState SF) T ≡ t → accepts key bytes lens (opener T) shared T A ≡ t
+        go : (t : Bool) → same (tagOfState SF) T ≡ t → accepts key bytes lens T A ≡ t
             → Steps (opener T) (book 3 A []) (stateOf key (strings bytes lens) 3 T 0 (streamed key T A)) (put shared 0 (streamed key T A)) finish
         go true g h =
             let last : o ≡ shown key bytes lens (opener T) shared (book 0 A []) =

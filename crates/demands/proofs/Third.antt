@@ -337,7 +337,7 @@ module _ (key bytes lens : List ℕ) (a : Admits key bytes lens) where
         passes : openJudged key bytes lens y output scratch ≡ 0
         passes = judged key bytes lens y output scratch a (omega (arith, long)) (omega (arith, long)) (omega (arith, long)) (omega (arith, long))
 
-        said : (t : Bool) → accepts key bytes lens (opener T) shared T (b .A) ≡ t
+        said : (t : Bool) → accepts key bytes lens T (b .A) ≡ t
             → modelStep key bytes lens (opener T) shared b finish .entry
             ≡ record {
               outcome = record { number = pickNumber (not t) 8 0; count = pickNumber t (length (b .A)) 0 };

@@ -47,8 +47,8 @@ pub record ModelRun : Type 0 where
   pub entries : List Entry
   pub book : Book
 
--- begin's arguments, and the output shared by feed and finish as it was at first
-module _ (key bytes lens : List ℕ) (begin : Begin) (shared : List ℕ) where
+-- begin's arguments but for the opener's tag
+module _ (key bytes lens : List ℕ) where
   -- the tag that sealing A gives
   abbrev pub sealTag : List ℕ → List ℕ
   sealTag A = tagOf key (strings bytes lens) A
@@ -57,83 +57,87 @@ module _ (key bytes lens : List ℕ) (begin : Begin) (shared : List ℕ) where
   unfoldable pub accepts : List ℕ → List ℕ → Bool
   accepts T A = eqb (openNumber key bytes lens (T ++ A) (replicate (length A) 0) (replicate (scratchNeed (length A)) 0)) 0
 
-  -- the shared output: the opener's starts with A xor the key stream of T in stage 3; after finish, with the plaintext for 0, and with zeros as long as A for 8
-  abbrev pub shownBy : Begin → Book → List ℕ
-  shownBy sealer b = shared
-  shownBy (opener T) b =
-      pickString (eqb (b .stage) 3) (put shared 0 (streamed key T (b .A)))
-      (put shared 0 (pickString (accepts T (b .A)) (opened key (T ++ b .A)) (replicate (length (b .A)) 0)))
+  -- which begin, and the output shared by feed and finish as it was at first
+  module _ (begin : Begin) (shared : List ℕ) where
+    -- the shared output: the opener's starts with A xor the key stream of T in stage 3; after finish, with the plaintext for 0, and with zeros as long as A for 8
+    abbrev pub shownBy : Begin → Book → List ℕ
+    shownBy sealer b = shared
+    shownBy (opener T) b =
+        pickString (eqb (b .stage) 3) (put shared 0 (streamed key T (b .A)))
+        (put shared 0 (pickString (accepts T (b .A)) (opened key (T ++ b .A)) (replicate (length (b .A)) 0)))
 
-  abbrev pub shown : Book → List ℕ
-  shown b = shownBy begin b
+    -- the same, of the list's own begin
+    abbrev pub shown : Book → List ℕ
+    shown b = shownBy begin b
 
-  abbrev pub acceptsBy : Begin → List ℕ → Bool
-  acceptsBy sealer A = false
-  acceptsBy (opener T) A = accepts T A
+    -- whether finish accepts; a sealer has no stage that finish wants
+    abbrev pub acceptsBy : Begin → List ℕ → Bool
+    acceptsBy sealer A = false
+    acceptsBy (opener T) A = accepts T A
 
-  -- the refusals of a call in the stage that it wants
-  abbrev pub refusals : Book → Call → List Row
-  refusals b (add piece) = row 4 (ltb limit (length (b .A ++ piece))) ∷ []
-  refusals b (turn output) = row 6 (ltb (length output) 16) ∷ []
-  refusals b (write piece output) = row 4 (ltb (length (b .A)) (length (b .W ++ piece))) ∷ row 6 (ltb (length output) (length piece)) ∷ []
-  refusals b close = row 9 (ltb (length (b .W)) (length (b .A))) ∷ []
-  refusals b (feed piece) = row 4 (ltb limit (length (b .A ++ piece))) ∷ row 6 (ltb (length shared) (length (b .A ++ piece))) ∷ []
-  refusals b finish = row 8 (not (acceptsBy begin (b .A))) ∷ []
+    -- the refusals of a call in the stage that it wants
+    abbrev pub refusals : Book → Call → List Row
+    refusals b (add piece) = row 4 (ltb limit (length (b .A ++ piece))) ∷ []
+    refusals b (turn output) = row 6 (ltb (length output) 16) ∷ []
+    refusals b (write piece output) = row 4 (ltb (length (b .A)) (length (b .W ++ piece))) ∷ row 6 (ltb (length output) (length piece)) ∷ []
+    refusals b close = row 9 (ltb (length (b .W)) (length (b .A))) ∷ []
+    refusals b (feed piece) = row 4 (ltb limit (length (b .A ++ piece))) ∷ row 6 (ltb (length shared) (length (b .A ++ piece))) ∷ []
+    refusals b finish = row 8 (not (acceptsBy begin (b .A))) ∷ []
 
-  -- the book after success, and after 8
-  abbrev pub bookAfter : Book → Call → Book
-  bookAfter b (add piece) = record { stage = 1; A = b .A ++ piece; W = b .W }
-  bookAfter b (turn output) = record { stage = 2; A = b .A; W = b .W }
-  bookAfter b (write piece output) = record { stage = 2; A = b .A; W = b .W ++ piece }
-  bookAfter b close = record { stage = 0; A = b .A; W = b .W }
-  bookAfter b (feed piece) = record { stage = 3; A = b .A ++ piece; W = b .W }
-  bookAfter b finish = record { stage = 0; A = b .A; W = b .W }
+    -- the book after success, and after 8
+    abbrev pub bookAfter : Book → Call → Book
+    bookAfter b (add piece) = record { stage = 1; A = b .A ++ piece; W = b .W }
+    bookAfter b (turn output) = record { stage = 2; A = b .A; W = b .W }
+    bookAfter b (write piece output) = record { stage = 2; A = b .A; W = b .W ++ piece }
+    bookAfter b close = record { stage = 0; A = b .A; W = b .W }
+    bookAfter b (feed piece) = record { stage = 3; A = b .A ++ piece; W = b .W }
+    bookAfter b finish = record { stage = 0; A = b .A; W = b .W }
 
-  -- the length of success
-  abbrev pub countAfter : Book → Call → ℕ
-  countAfter b (add piece) = 0
-  countAfter b (turn output) = 16
-  countAfter b (write piece output) = length piece
-  countAfter b close = 0
-  countAfter b (feed piece) = length piece
-  countAfter b finish = length (b .A)
+    -- the length of success
+    abbrev pub countAfter : Book → Call → ℕ
+    countAfter b (add piece) = 0
+    countAfter b (turn output) = 16
+    countAfter b (write piece output) = length piece
+    countAfter b close = 0
+    countAfter b (feed piece) = length piece
+    countAfter b finish = length (b .A)
 
-  -- the output lent to a call, before it; add and close are lent none
-  abbrev pub outputBefore : Book → Call → List ℕ
-  outputBefore b (add piece) = []
-  outputBefore b (turn output) = output
-  outputBefore b (write piece output) = output
-  outputBefore b close = []
-  outputBefore b (feed piece) = shown b
-  outputBefore b finish = shown b
+    -- the output lent to a call, before it; add and close are lent none
+    abbrev pub outputBefore : Book → Call → List ℕ
+    outputBefore b (add piece) = []
+    outputBefore b (turn output) = output
+    outputBefore b (write piece output) = output
+    outputBefore b close = []
+    outputBefore b (feed piece) = shown b
+    outputBefore b finish = shown b
 
-  -- and after success or 8: turn gives the tag of sealing A, and the writes' bytes, joined, are W xor the key stream of that tag
-  abbrev pub outputAfter : Book → Call → List ℕ
-  outputAfter b (add piece) = []
-  outputAfter b (turn output) = put output 0 (sealTag (b .A))
-  outputAfter b (write piece output) = put output 0 (drop (length (b .W)) (streamed key (sealTag (b .A)) (b .W ++ piece)))
-  outputAfter b close = []
-  outputAfter b (feed piece) = shown (bookAfter b (feed piece))
-  outputAfter b finish = shown (bookAfter b finish)
+    -- and after success or 8: turn gives the tag of sealing A, and the writes' bytes, joined, are W xor the key stream of that tag
+    abbrev pub outputAfter : Book → Call → List ℕ
+    outputAfter b (add piece) = []
+    outputAfter b (turn output) = put output 0 (sealTag (b .A))
+    outputAfter b (write piece output) = put output 0 (drop (length (b .W)) (streamed key (sealTag (b .A)) (b .W ++ piece)))
+    outputAfter b close = []
+    outputAfter b (feed piece) = shown (bookAfter b (feed piece))
+    outputAfter b finish = shown (bookAfter b finish)
 
-  -- the number that a call gives: 9 in a stage that it does not want, else by its refusals
-  abbrev pub modelNumber : Book → Call → ℕ
-  modelNumber b c = first (row 9 (not (eqb (b .stage) (wants c))) ∷ refusals b c)
+    -- the number that a call gives: 9 in a stage that it does not want, else by its refusals
+    abbrev pub modelNumber : Book → Call → ℕ
+    modelNumber b c = first (row 9 (not (eqb (b .stage) (wants c))) ∷ refusals b c)
 
-  -- a call: a refusal has length 0 and, but for 8, changes neither book nor outputs
-  unfoldable pub modelStep : Book → Call → After
-  modelStep b c =
-      let n = modelNumber b c in
-      pickAfter (either (eqb n 0) (eqb n 8))
-      (record {
-        book = bookAfter b c;
-        entry = record { outcome = record { number = n; count = pickNumber (eqb n 0) (countAfter b c) 0 }; output = outputAfter b c };
-      })
-      (record { book = b; entry = record { outcome = verdict n; output = outputBefore b c } })
+    -- a call: a refusal has length 0 and, but for 8, changes neither book nor outputs
+    unfoldable pub modelStep : Book → Call → After
+    modelStep b c =
+        let n = modelNumber b c in
+        pickAfter (either (eqb n 0) (eqb n 8))
+        (record {
+          book = bookAfter b c;
+          entry = record { outcome = record { number = n; count = pickNumber (eqb n 0) (countAfter b c) 0 }; output = outputAfter b c };
+        })
+        (record { book = b; entry = record { outcome = verdict n; output = outputBefore b c } })
 
-  abbrev pub modelRun : Book → List Call → ModelRun
-  modelRun b [] = record { entries = []; book = b }
-  modelRun b (c ∷ cs) =
-      let a = modelStep b c in
-      let rest = modelRun (a .book) cs in
-      record { entries = a .entry ∷ rest .entries; book = rest .book }
+    abbrev pub modelRun : Book → List Call → ModelRun
+    modelRun b [] = record { entries = []; book = b }
+    modelRun b (c ∷ cs) =
+        let a = modelStep b c in
+        let rest = modelRun (a .book) cs in
+        record { entries = a .entry ∷ rest .entries; book = rest .book }

@@ -90,7 +90,7 @@ module _ (key bytes lens : List ℕ) where
       -- turn gave the tag of sealing A, and the accepted writes' bytes, joined, are W xor the key stream of that tag
       pub joined : sealerGave
           ≡ pickString (eqb (sealerBook .stage) 1) []
-          (sealTag key bytes lens sealer shared (sealerBook .A) ++ streamed key (sealTag key bytes lens sealer shared (sealerBook .A)) (sealerBook .W))
+          (sealTag key bytes lens (sealerBook .A) ++ streamed key (sealTag key bytes lens (sealerBook .A)) (sealerBook .W))
       -- what turn and the writes gave is the first bytes of sealing all that was added, if the writes brought its first bytes again
       pub firstBytes : take (length (sealerBook .W)) (sealerBook .A) ≡ sealerBook .W
           → sealerGave ≡ take (pickNumber (eqb (sealerBook .stage) 1) 0 (16 + length (sealerBook .W))) (sealed key (strings bytes lens) (sealerBook .A))
