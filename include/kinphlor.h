@@ -33,7 +33,8 @@
  * record is not sealed or opened in place.
  *
  * The functions keep nothing between calls and take no memory from the heap. Calls in several threads at once are fine
- * where none writes what another uses. What a call had on its own stack, round keys among it, is not wiped when it returns.
+ * where none writes what another uses. What a call had on its own stack, round keys among it, is not wiped when it
+ * returns.
  */
 #ifndef KINPHLOR_H
 #define KINPHLOR_H
