@@ -1,26 +1,27 @@
 -- The first demand holds.
 -- Assumes nothing.
-use mathlib.Core.Path.{_≡_, refl, ap, sym, subst, _∙_}
-use mathlib.Core.Bool.{Bool, true, false}
+use mathlib.Core.Path.{_≡_, refl, ap, ap₂, sym, subst, _∙_}
+use mathlib.Core.Bool.{Bool, true, false, not}
 use mathlib.Core.List.{List, [], _∷_}
 use Prim.Native.Nat.{ℕ, pred}
 use native.Mathlib.Omega.{arith}
 use lib.Dec.{eqb}
-use lib.ListN.{getD, replicate}
+use lib.ListN.{length, getD, replicate}
 use borrow.Author.Tests.{eqb-true, eq-eqb, ne-eqb}
-use Rattle.octets.specs.Octets.{put}
+use Rattle.octets.specs.Octets.{put, both}
 use Rattle.siv.specs.declared.Answer.{Answer}
 use Rattle.siv.specs.declared.Answer.the-variants.{Done, Refused}
 use Rattle.siv.specs.declared.Refusal.{Refusal}
 use Rattle.siv.specs.declared.Refusal.the-variants.{KeyLength, HeaderCount, HeaderLengths, TooLong, SealedLength, OutputShort, ScratchShort, Forged, State, EmptyNonce}
-use Rattle.siv.specs.Answer.{Outcome, Row, pickNumber, first, numberOf, outcomeOf}
-use Rattle.siv.specs.Calls.{sealNumber, sealCall, openNumber, openCall}
-use Rattle.siv.proofs.Laws.{refusal-number}
+use Rattle.siv.specs.Answer.{Outcome, Row, row, pickNumber, first, verdict, numberOf, outcomeOf}
+use Rattle.siv.specs.Calls.{Result, isKeyLength, sealNumber, sealCall, openNumber, openCall}
+use Rattle.siv.proofs.Laws.{lacks, first-not, refusal-number}
 use Rattle.stream.specs.declared.Stream.{Stream}
 use Rattle.stream.specs.State.{ended}
 use Rattle.stream.specs.Steps as steps
 use Rattle.stream.specs.Steps.{beginSealer, beginOpener, addStep, turnStep, writeStep, closeStep, feedStep, finishStep}
-use Rattle.demands.specs.First.{order, keeps, FirstDue, none, here, later, sealTable, openTable, FirstSeal, FirstOpen, FirstStep, finishTable, FirstFinish, First}
+use Rattle.kinphlor.specs.Door.{pickResult, emptyNonce, door}
+use Rattle.demands.specs.First.{order, keeps, FirstDue, none, here, later, sealTable, openTable, FirstSeal, FirstOpen, atDoor, FirstDoor, FirstStep, finishTable, FirstFinish, First}
 
 -- `first` takes the first row that is due
 first-due : (rs : List Row) → FirstDue rs (first rs)
@@ -65,6 +66,48 @@ module _ (key bytes lens input output scratch : List ℕ) where
             let off8 = ne-eqb n 8 w in
             (simp (e, off), simp (e, off, off8), simp (e, off, off8));
       }
+
+-- ---- the C interface
+
+module _ (rest : List Row) (nonce : ℕ) (key output scratch : List ℕ) (call : Result) where
+  abbrev table : List Row
+  table = row 1 (not (isKeyLength (length key))) ∷ rest
+
+  at-door : keeps order (atDoor nonce table) ≡ true → lacks 10 table ≡ true → call .outcome .number ≡ first table → FirstDoor table nonce key output scratch call
+  unfolding door emptyNonce
+  at-door k l e = go (isKeyLength (length key)) refl (eqb nonce 0) refl
+    where
+      not-ten : call .outcome .number ≡ 10 → ⊥
+      not-ten z = first-not 10 table l (λ p. omega (arith, p)) (sym e ∙ z)
+
+      ten : Result
+      ten = record { outcome = verdict 10; output = output; scratch = scratch }
+
+      by-call : (n : ℕ) → both (isKeyLength (length key)) (eqb nonce 0) ≡ false → first table ≡ n → FirstDue (atDoor nonce table) n → FirstDoor table nonce key output scratch call
+      by-call n off number due =
+          let same : door nonce key output scratch call ≡ call = ap (λ (t : Bool). pickResult t ten call) off in
+          let same-number : door nonce key output scratch call .outcome .number ≡ call .outcome .number = ap (λ (r : Result). r .outcome .number) same in
+          record {
+            ordered = k;
+            first = subst (FirstDue (atDoor nonce table)) (sym (same-number ∙ e ∙ number)) due;
+            empty = λ z. absurd (not-ten (sym same-number ∙ z));
+            otherwise = λ z. same;
+          }
+
+      go : (a : Bool) → isKeyLength (length key) ≡ a → (b : Bool) → eqb nonce 0 ≡ b → FirstDoor table nonce key output scratch call
+      go false a b z =
+          by-call 1 (ap (λ (t : Bool). both t (eqb nonce 0)) a) (ap (λ (t : Bool). pickNumber (not t) 1 (first rest)) a) (here (ap not a))
+      go true a true z =
+          let same : door nonce key output scratch call ≡ ten = ap (λ (t : Bool). pickResult t ten call) (ap₂ both a z) in
+          let same-number : door nonce key output scratch call .outcome .number ≡ 10 = ap (λ (r : Result). r .outcome .number) same in
+          record {
+            ordered = k;
+            first = subst (FirstDue (atDoor nonce table)) (sym same-number) (later (ap not a) (here z));
+            empty = λ n. (ap (λ (r : Result). r .outcome) same, ap (λ (r : Result). r .output) same, ap (λ (r : Result). r .scratch) same);
+            otherwise = λ n. absurd (n same-number);
+          }
+      go true a false z =
+          by-call (first rest) (ap₂ both a z) (ap (λ (t : Bool). pickNumber (not t) 1 (first rest)) a) (later (ap not a) (later z (first-due rest)))
 
 -- ---- piecewise calls
 
@@ -146,11 +189,13 @@ told (Refused r) (Refused s) e =
     ap (λ (x : Refusal). Refused x) (sym (by-number r) ∙ ap (λ (o : Outcome). refusal (o .number)) e ∙ by-number s)
 
 pub demand : First
-unfolding beginSealer beginOpener addStep turnStep writeStep closeStep feedStep
+unfolding beginSealer beginOpener addStep turnStep writeStep closeStep feedStep sealNumber sealCall openNumber openCall
 demand =
     record {
       sealing = sealing;
       opening = opening;
+      sealingFromC = λ key header input output scratch ad nonce. at-door _ nonce key output scratch _ refl refl refl;
+      openingFromC = λ key header input output scratch ad nonce. at-door _ nonce key output scratch _ refl refl refl;
       beginningSealer = λ key bytes lens. by-table _ _ _ _ refl refl;
       beginningOpener = λ key bytes lens tag. by-table _ _ _ _ refl refl;
       adding = λ s piece. by-table _ _ _ _ refl refl;

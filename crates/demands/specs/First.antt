@@ -16,6 +16,7 @@ use Rattle.siv.specs.Siv.{sealed, opened, genuine}
 use Rattle.stream.specs.declared.Stream.{Stream}
 use Rattle.stream.specs.State.{ended, start, added, tagOfState}
 use Rattle.stream.specs.Steps as steps
+use Rattle.kinphlor.specs.Door.{doorLens, door}
 
 -- document 01's order of refusals
 abbrev pub order : List ℕ
@@ -74,6 +75,20 @@ module _ (key bytes lens input output scratch : List ℕ) where
     pub refused : (n : ℕ) → openCall key bytes lens input output scratch .outcome .number ≡ n → (n ≡ 0 → ⊥) → (n ≡ 8 → ⊥)
         → Leaves (openCall key bytes lens input output scratch) n 0 output scratch
 
+-- ---- the C interface
+
+-- a whole call's rows at the C interface: 10, for an empty nonce, straight after 1
+abbrev pub atDoor : ℕ → List Row → List Row
+atDoor nonce [] = []
+atDoor nonce (r ∷ rs) = r ∷ row 10 (eqb nonce 0) ∷ rs
+
+-- the interface over a whole call with its table: 10 with all lent memory untouched, or what the call gave
+pub record FirstDoor (table : List Row) (nonce : ℕ) (key output scratch : List ℕ) (call : Result) : Type 0 where
+  pub ordered : keeps order (atDoor nonce table) ≡ true
+  pub first : FirstDue (atDoor nonce table) (door nonce key output scratch call .outcome .number)
+  pub empty : door nonce key output scratch call .outcome .number ≡ 10 → Leaves (door nonce key output scratch call) 10 0 output scratch
+  pub otherwise : (door nonce key output scratch call .outcome .number ≡ 10 → ⊥) → door nonce key output scratch call ≡ call
+
 -- ---- piecewise calls
 
 -- a call by its table: a refusal returns state and output as given
@@ -99,6 +114,10 @@ pub record FirstFinish (s : Stream) (output : List ℕ) : Type 0 where
 pub record First : Type 0 where
   pub sealing : (key bytes lens input output scratch : List ℕ) → FirstSeal key bytes lens input output scratch
   pub opening : (key bytes lens input output scratch : List ℕ) → FirstOpen key bytes lens input output scratch
+  pub sealingFromC : (key header input output scratch : List ℕ) (ad nonce : ℕ)
+      → FirstDoor (sealTable key header (doorLens ad nonce) input output scratch) nonce key output scratch (sealCall key header (doorLens ad nonce) input output scratch)
+  pub openingFromC : (key header input output scratch : List ℕ) (ad nonce : ℕ)
+      → FirstDoor (openTable key header (doorLens ad nonce) input output scratch) nonce key output scratch (openCall key header (doorLens ad nonce) input output scratch)
   pub beginningSealer : (key bytes lens : List ℕ)
       → FirstStep (headerRows (length key) lens (length bytes)) (steps.beginSealer key bytes lens) (steps.success 0 (start key (strings bytes lens) 1 zeros) []) ended []
   pub beginningOpener : (key bytes lens tag : List ℕ)
