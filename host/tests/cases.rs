@@ -1,15 +1,15 @@
 //! What is run: records against both peers, damage, the table of answers, and tags chosen by their end.
 
-use crate::check;
-use crate::chosen;
-use crate::library::{Args, Function, LIMIT, TAG_LEN};
-use crate::peers::{Libcrypto, Libgcrypt, Peer};
-use crate::random::Random;
+use shared::check;
+use shared::chosen;
+use shared::library::{Args, Function, KEY_LENS, LIMIT, TAG_LEN};
+use shared::peers::{Libcrypto, Libgcrypt, Peer};
+use shared::random::Random;
+use shared::table::{choices, Together};
+use shared::whole::{self, Room, Want};
 use std::collections::BTreeSet;
-use std::sync::OnceLock;
 use Function::{Open, Seal};
 
-const KEY_LENS: [usize; 3] = [32, 48, 64];
 const AD_LENS: [usize; 5] = [0, 1, 15, 16, 17];
 const NONCE_LENS: [usize; 4] = [1, 15, 16, 17];
 
@@ -54,96 +54,28 @@ impl Record {
     }
 }
 
-/// Lengths of the memory lent for writing.
-#[derive(Clone, Copy)]
-struct Room {
-    output: usize,
-    scratch: usize,
-}
-
-impl Room {
-    fn need(function: Function, input_len: usize) -> Room {
-        Room { output: function.output_need(input_len), scratch: function.scratch_need(input_len) }
-    }
-}
-
-/// What a call must do.
-enum Want<'a> {
-    Written(&'a [u8]),
-    Refused(u64),
-    Forged,
-}
-
-/// Lent memory, filled with a pattern that has no zero byte, between two guards of the same pattern.
-struct Lent {
-    memory: Vec<u8>,
-    len: usize,
-}
-
-const GUARD: usize = 32;
-
-impl Lent {
-    fn new(len: usize) -> Lent {
-        Lent { memory: Lent::pattern(len + 2 * GUARD).to_vec(), len }
-    }
-
-    /// The pattern's first bytes, made once.
-    fn pattern(len: usize) -> &'static [u8] {
-        static PATTERN: OnceLock<Vec<u8>> = OnceLock::new();
-        &PATTERN.get_or_init(|| (0..LIMIT + 1024).map(|i| (i as u8).wrapping_mul(31) | 1).collect())[..len]
-    }
-
-    fn slice(&mut self) -> &mut [u8] {
-        &mut self.memory[GUARD..GUARD + self.len]
-    }
-
-    /// It holds `front`, and the pattern in all later bytes and in the guards.
-    fn check(&self, what: impl Fn(&str) -> String, front: &[u8]) {
-        let pattern = Lent::pattern(self.memory.len());
-        let later = GUARD + front.len();
-        check::bytes(|| what("front"), front, &self.memory[GUARD..later]);
-        check::bytes(|| what("memory before it"), &pattern[..GUARD], &self.memory[..GUARD]);
-        check::bytes(|| what("later bytes"), &pattern[later..], &self.memory[later..]);
-    }
-}
-
-/// One call: its number, its length and every byte of the lent memory. Gives what is at the front of the output.
 fn run(function: Function, args: &Args, room: Room, want: Want) -> Vec<u8> {
-    let n = function.plain_len(args.input.len());
-    let (answer, front, wiped) = match want {
-        Want::Written(bytes) => ((0, bytes.len() as u64), bytes.to_vec(), function.scratch_need(args.input.len())),
-        Want::Refused(number) => ((number, 0), vec![], 0),
-        Want::Forged => ((8, 0), vec![0; n], function.scratch_need(args.input.len())),
+    let what = || {
+        let Args { key, header, ad_len, nonce_len, .. } = args;
+        format!("key of {} bytes, header of {} (ad {ad_len}, nonce {nonce_len})", key.len(), header.len())
     };
-    let (mut output, mut scratch) = (Lent::new(room.output), Lent::new(room.scratch));
-    let got = function.call(args, output.slice(), scratch.slice());
-
-    let call = || {
-        format!(
-            "{function:?}, lengths: key {}, header {} (ad {}, nonce {}), input {}, output {}, scratch {}",
-            args.key.len(), args.header.len(), args.ad_len, args.nonce_len, args.input.len(), room.output, room.scratch
-        )
-    };
-    check::holds(|| format!("{}: expected number and length {answer:?}, got {got:?}", call()), got == answer);
-    output.check(|part| format!("{}: answer {got:?}, output, {part}", call()), &front);
-    scratch.check(|part| format!("{}: answer {got:?}, scratch, {part}", call()), &vec![0; wiped]);
-    output.slice()[..front.len()].to_vec()
+    whole::run(function, args.input.len(), room, want, what, |output, scratch| function.call(args, output, scratch))
 }
 
 /// Ways to damage a sealed record. One that has nothing to damage says so with false.
 const DAMAGES: [(&str, fn(&mut Record, &mut Random) -> bool); 9] = [
-    ("tag", |r, random| flip(&mut r.text[..TAG_LEN], random)),
-    ("text", |r, random| flip(&mut r.text[TAG_LEN..], random)),
-    ("associated data", |r, random| flip(&mut r.ad, random)),
-    ("nonce", |r, random| flip(&mut r.nonce, random)),
+    ("tag", |r, random| random.flip(&mut r.text[..TAG_LEN])),
+    ("text", |r, random| random.flip(&mut r.text[TAG_LEN..])),
+    ("associated data", |r, random| random.flip(&mut r.ad)),
+    ("nonce", |r, random| random.flip(&mut r.nonce)),
     ("first half of the key", |r, random| {
         let half = r.key.len() / 2;
-        flip(&mut r.key[..half], random)
+        random.flip(&mut r.key[..half])
     }),
     // This half gives the key stream: an empty plaintext has none, and the few bytes of a short one may come out the same.
     ("second half of the key", |r, random| {
         let half = r.key.len() / 2;
-        r.text.len() >= TAG_LEN + 16 && flip(&mut r.key[half..], random)
+        r.text.len() >= TAG_LEN + 16 && random.flip(&mut r.key[half..])
     }),
     ("place where the nonce starts", |r, _| {
         let moves = r.nonce.len() > 1;
@@ -161,14 +93,6 @@ const DAMAGES: [(&str, fn(&mut Record, &mut Random) -> bool); 9] = [
         fits
     }),
 ];
-
-/// Flips one bit.
-fn flip(bytes: &mut [u8], random: &mut Random) -> bool {
-    if !bytes.is_empty() {
-        bytes[random.below(bytes.len())] ^= 1 << random.below(8);
-    }
-    !bytes.is_empty()
-}
 
 pub struct Cases {
     pub libcrypto: Libcrypto,
@@ -333,24 +257,16 @@ impl Cases {
     pub fn answers(&mut self) {
         let bytes = self.random.bytes(LIMIT + 64);
         for function in [Seal, Open] {
-            let mut due_together = BTreeSet::new();
+            let mut together = Together::default();
             for case in Case::all(function) {
                 let due: Vec<u64> = REFUSALS.iter().filter(|(_, applies)| applies(&case)).map(|r| r.0).collect();
-                for (i, &first) in due.iter().enumerate() {
-                    due_together.extend(due[i..].iter().map(|&other| (first, other)));
-                }
+                together.note(&due);
                 self.answer(&case, due.first().copied(), &bytes);
             }
-            for (i, &(first, _)) in REFUSALS.iter().enumerate() {
-                for &(other, _) in &REFUSALS[i..] {
-                    let never = NEVER_TOGETHER.contains(&(first, other))
-                        || function == Seal && [5, 8].iter().any(|open_only| [first, other].contains(open_only));
-                    check::holds(
-                        || format!("{function:?}: {first} and {other} due at once: the cases have it: {never}"),
-                        due_together.contains(&(first, other)) != never,
-                    );
-                }
-            }
+            together.check(&format!("{function:?}"), &REFUSALS.map(|(number, _)| number), |first, other| {
+                NEVER_TOGETHER.contains(&(first, other))
+                    || function == Seal && [5, 8].iter().any(|open_only| [first, other].contains(open_only))
+            });
         }
     }
 
@@ -372,7 +288,7 @@ impl Cases {
             sealed = self.libgcrypt.seal(args.key, &[ad, nonce], plain);
             if case.function == Open {
                 if case.damaged {
-                    flip(&mut sealed, &mut self.random);
+                    self.random.flip(&mut sealed);
                 }
                 args.input = &sealed;
             }
@@ -432,21 +348,14 @@ impl Case {
 
     fn all(function: Function) -> impl Iterator<Item = Case> {
         let counts = [CASE_KEYS.len(), CASE_HEADERS.len(), CASE_INPUTS.len(), CASE_ROOMS.len(), CASE_ROOMS.len(), 2];
-        (0..counts.iter().product()).filter_map(move |mut code: usize| {
-            let at = counts.map(|count| {
-                let index = code % count;
-                code /= count;
-                index
-            });
-            (at.iter().filter(|&&index| index != 0).count() <= 3).then(|| Case {
-                function,
-                key_len: CASE_KEYS[at[0]],
-                header: CASE_HEADERS[at[1]],
-                input_len: CASE_INPUTS[at[2]],
-                output: CASE_ROOMS[at[3]],
-                scratch: CASE_ROOMS[at[4]],
-                damaged: at[5] == 1,
-            })
+        choices(counts, 3).map(move |at| Case {
+            function,
+            key_len: CASE_KEYS[at[0]],
+            header: CASE_HEADERS[at[1]],
+            input_len: CASE_INPUTS[at[2]],
+            output: CASE_ROOMS[at[3]],
+            scratch: CASE_ROOMS[at[4]],
+            damaged: at[5] == 1,
         })
     }
 }

@@ -21,4 +21,11 @@ impl Random {
         bytes.truncate(len);
         bytes
     }
+    /// Flips one bit; false where there is none.
+    pub fn flip(&mut self, bytes: &mut [u8]) -> bool {
+        if !bytes.is_empty() {
+            bytes[self.below(bytes.len())] ^= 1 << self.below(8);
+        }
+        !bytes.is_empty()
+    }
 }

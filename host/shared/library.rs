@@ -15,6 +15,7 @@ unsafe extern "C" {
 /// The longest plaintext.
 pub const LIMIT: usize = 1_048_576;
 pub const TAG_LEN: usize = 16;
+pub const KEY_LENS: [usize; 3] = [32, 48, 64];
 
 #[derive(Clone, Copy, PartialEq, Debug)]
 pub enum Function {

@@ -1,0 +1,12 @@
+//! What the programs in Rust share: the archive and its peers as safe Rust, lent memory, counted checks, seeded numbers.
+
+pub mod check;
+pub mod chosen;
+pub mod lent;
+pub mod library;
+pub mod mac;
+pub mod parts;
+pub mod peers;
+pub mod random;
+pub mod table;
+pub mod whole;
