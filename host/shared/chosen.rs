@@ -2,8 +2,25 @@
 //! what the last block must bring. So a tag with any end is there at once, where a search for four bytes would take hours.
 
 use crate::library::TAG_LEN;
-use crate::mac::{last_block, pad, xor, Mac};
+use crate::mac::{last_block, pad, subkey, xor, Mac};
 use crate::peers::Libcrypto;
+use crate::random::Random;
+
+/// How many bytes at a tag's end are chosen, and out of how many bits there the counter then carries. Past 31 bits the
+/// carry goes into the bit that Q clears, set or not in the tag.
+pub const CARRIES: [(usize, u32); 5] = [(1, 8), (2, 16), (3, 24), (4, 31), (4, 32)];
+
+/// The end of a tag from which the counter carries in block `at`.
+pub fn carrying((count, bits): (usize, u32), at: u64) -> Vec<u8> {
+    (1u64 << bits).wrapping_sub(at).to_be_bytes()[8 - count..].to_vec()
+}
+
+/// A random tag with that end.
+pub fn tag(random: &mut Random, end: &[u8]) -> [u8; TAG_LEN] {
+    let mut tag: [u8; TAG_LEN] = random.bytes(TAG_LEN).try_into().unwrap();
+    tag[TAG_LEN - end.len()..].copy_from_slice(end);
+    tag
+}
 
 /// Changes one block of `text`, which has at least 32 bytes, so that its tag is `tag`.
 pub fn plaintext(aes: &Libcrypto, key: &[u8], header: &[&[u8]], tag: &[u8; TAG_LEN], mut text: Vec<u8>) -> Vec<u8> {
@@ -11,7 +28,7 @@ pub fn plaintext(aes: &Libcrypto, key: &[u8], header: &[&[u8]], tag: &[u8; TAG_L
 
     // First the string that CMAC is taken of: its last block is `at..`.
     let at = last_block(text.len());
-    let wanted = xor(&mac.cipher(tag, false), &mac.subkey(&text[at..]));
+    let wanted = xor(&mac.cipher(tag, false), &subkey(mac.l(), &text[at..]));
     if text.len() - at == 16 {
         let block = xor(&wanted, &mac.chain(&text[..at]));
         text[at..].copy_from_slice(&block);

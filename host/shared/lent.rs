@@ -21,7 +21,11 @@ impl Lent {
     /// The pattern's first bytes, made once.
     fn pattern(len: usize) -> &'static [u8] {
         static PATTERN: OnceLock<Vec<u8>> = OnceLock::new();
-        &PATTERN.get_or_init(|| (0..LIMIT + 1024).map(|i| (i as u8).wrapping_mul(31) | 1).collect())[..len]
+        &PATTERN.get_or_init(|| (0..LIMIT + 4096).map(|i| (i as u8).wrapping_mul(31) | 1).collect())[..len]
+    }
+
+    pub fn len(&self) -> usize {
+        self.len
     }
 
     pub fn slice(&mut self) -> &mut [u8] {
@@ -35,5 +39,13 @@ impl Lent {
         check::bytes(|| what("front"), front, &self.memory[GUARD..later]);
         check::bytes(|| what("memory before it"), &pattern[..GUARD], &self.memory[..GUARD]);
         check::bytes(|| what("later bytes"), &pattern[later..], &self.memory[later..]);
+    }
+
+    /// It is `expected`, guards and all.
+    pub fn check_same(&self, what: impl Fn(&str) -> String, expected: &Lent) {
+        let end = GUARD + self.len;
+        for (part, at) in [("bytes", GUARD..end), ("memory before it", 0..GUARD), ("memory after it", end..end + GUARD)] {
+            check::bytes(|| what(part), &expected.memory[at.clone()], &self.memory[at.clone()]);
+        }
     }
 }

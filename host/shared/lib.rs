@@ -1,5 +1,6 @@
 //! What the programs in Rust share: the archive and its peers as safe Rust, lent memory, counted checks, seeded numbers.
 
+pub mod answers;
 pub mod check;
 pub mod chosen;
 pub mod lent;

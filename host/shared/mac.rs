@@ -15,9 +15,15 @@ pub fn double(block: Block) -> Block {
     (shifted ^ if block[0] & 0x80 != 0 { 0x87 } else { 0 }).to_be_bytes()
 }
 
-/// A short last block of CMAC.
+/// A last block of CMAC: a short one is padded.
 pub fn pad(part: &[u8]) -> Block {
     std::array::from_fn(|i| if i < part.len() { part[i] } else if i == part.len() { 0x80 } else { 0 })
+}
+
+/// The subkey for a last block: K1 for a full one, K2 for a short one.
+pub fn subkey(l: Block, last: &[u8]) -> Block {
+    let k1 = double(l);
+    if last.len() == 16 { k1 } else { double(k1) }
 }
 
 /// Where the last block of a text starts; an empty text has an empty last block.
@@ -41,10 +47,9 @@ impl<'a> Mac<'a> {
         self.aes.cbc(self.key, encrypt, block).try_into().unwrap()
     }
 
-    /// K1 for a full last block, K2 for a short one.
-    pub fn subkey(&self, last: &[u8]) -> Block {
-        let k1 = double(self.cipher(&[0; 16], true));
-        if last.len() == 16 { k1 } else { double(k1) }
+    /// L, the cipher of the zero block.
+    pub fn l(&self) -> Block {
+        self.cipher(&[0; 16], true)
     }
 
     /// The chain over whole blocks.
@@ -57,8 +62,7 @@ impl<'a> Mac<'a> {
 
     fn cmac(&self, text: &[u8]) -> Block {
         let (front, last) = text.split_at(last_block(text.len()));
-        let end = if last.len() == 16 { xor(last, &[0; 16]) } else { pad(last) };
-        self.cipher(&xor(&xor(&end, &self.subkey(last)), &self.chain(front)), true)
+        self.cipher(&xor(&xor(&pad(last), &subkey(self.l(), last)), &self.chain(front)), true)
     }
 
     /// D over the header strings.
