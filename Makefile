@@ -8,7 +8,9 @@ SHELL := /bin/bash
 test:
 	@mkdir -p build
 	@rt ci 2>&1 | tee build/ci.log
-	@rt staticlib kinphlor >build/staticlib.log || { cat build/staticlib.log; exit 1; }
+	@for crate in kinphlor probe; do \
+	    rt staticlib $$crate >build/staticlib.log || { cat build/staticlib.log; exit 1; }; \
+	done
 	@$(MAKE) --no-print-directory host-test
 	@tail -n 1 build/ci.log
 

@@ -1,0 +1,43 @@
+//! libprobe.a against models that have their tags, openings and AES from OpenSSL's libcrypto and libgcrypt: piecewise
+//! sealing and opening. Its last line is `pieces: N checks passed`.
+//! With a seed as its argument it runs the one list of calls that this seed makes, and prints each call.
+
+mod aes;
+mod book;
+mod call;
+mod context;
+mod counter;
+mod fields;
+mod lists;
+mod probe;
+mod state;
+
+use context::Peers;
+use shared::library::LIMIT;
+use shared::peers::{Libcrypto, Libgcrypt};
+use shared::random::Random;
+use shared::{check, parts};
+
+struct Pieces {
+    peers: Peers,
+    seed: u64,
+    /// Bytes that are nobody's, the same for every seed.
+    noise: Vec<u8>,
+}
+
+impl Pieces {
+    fn new(seed: u64) -> Pieces {
+        let peers = Peers { libcrypto: Libcrypto::new(), libgcrypt: Libgcrypt::new() };
+        Pieces { peers, seed, noise: Random(0).bytes(LIMIT + 4096) }
+    }
+}
+
+fn main() {
+    if let Some(text) = std::env::args().nth(1) {
+        let seed = text.parse().unwrap_or_else(|_| check::fail(format!("the seed is no number: {text}")));
+        return parts::run("pieces", &mut Pieces::new(seed), &[("one list of calls", lists::show)]);
+    }
+    parts::run("pieces", &mut Pieces::new(parts::seed("pieces")), &[
+        ("lists of calls beside the plain book", lists::run),
+    ]);
+}
