@@ -10,7 +10,9 @@ mod counter;
 mod fields;
 mod lists;
 mod probe;
+mod spoiled;
 mod state;
+mod steps;
 
 use context::Peers;
 use shared::library::LIMIT;
@@ -21,6 +23,7 @@ use shared::{check, parts};
 struct Pieces {
     peers: Peers,
     seed: u64,
+    random: Random,
     /// Bytes that are nobody's, the same for every seed.
     noise: Vec<u8>,
 }
@@ -28,7 +31,7 @@ struct Pieces {
 impl Pieces {
     fn new(seed: u64) -> Pieces {
         let peers = Peers { libcrypto: Libcrypto::new(), libgcrypt: Libgcrypt::new() };
-        Pieces { peers, seed, noise: Random(0).bytes(LIMIT + 4096) }
+        Pieces { peers, seed, random: Random(seed), noise: Random(0).bytes(LIMIT + 4096) }
     }
 }
 
@@ -38,6 +41,7 @@ fn main() {
         return parts::run("pieces", &mut Pieces::new(seed), &[("one list of calls", lists::show)]);
     }
     parts::run("pieces", &mut Pieces::new(parts::seed("pieces")), &[
+        ("every call on good and spoiled states", spoiled::run),
         ("lists of calls beside the plain book", lists::run),
     ]);
 }

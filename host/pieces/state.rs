@@ -1,6 +1,7 @@
 //! A stream state as the bytes in which the probe takes it and gives it back.
 
 use shared::check;
+use shared::mac::Block;
 use std::ops::Range;
 use Field::*;
 
@@ -57,10 +58,18 @@ impl State {
     }
 
     /// A number, its lowest byte first.
+    pub fn number(&self, field: Field) -> u64 {
+        self.get(field).iter().rev().fold(0, |n, &byte| n << 8 | byte as u64)
+    }
+
     pub fn set_number(&mut self, field: Field, n: u64) {
         let bytes = n.to_le_bytes();
         let place = self.get_mut(field);
         place.copy_from_slice(&bytes[..place.len()]);
+    }
+
+    pub fn block(&self, field: Field) -> Block {
+        self.get(field).try_into().unwrap()
     }
 
     pub fn set(&mut self, field: Field, bytes: &[u8]) {
