@@ -2,7 +2,7 @@
 
 use shared::peers::{Libcrypto, Libgcrypt, Peer};
 use shared::random::Random;
-use shared::whole::Header;
+use shared::whole::{Given, Header};
 
 #[derive(Clone)]
 pub struct Context {
@@ -23,6 +23,10 @@ impl Context {
 
     pub fn strings(&self) -> Vec<&[u8]> {
         self.header().strings()
+    }
+
+    pub fn with<'a>(&'a self, input: &'a [u8]) -> Given<'a> {
+        Given { key: &self.key, header: self.header(), input }
     }
 }
 

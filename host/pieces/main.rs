@@ -1,13 +1,15 @@
-//! libprobe.a against models that have their tags, openings and AES from OpenSSL's libcrypto and libgcrypt: piecewise
-//! sealing and opening. Its last line is `pieces: N checks passed`.
+//! libprobe.a against models that have their tags, openings and AES from OpenSSL's libcrypto and libgcrypt: whole calls
+//! with any header list, and piecewise sealing and opening. Its last line is `pieces: N checks passed`.
 //! With a seed as its argument it runs the one list of calls that this seed makes, and prints each call.
 
 mod aes;
+mod begins;
 mod book;
 mod call;
 mod context;
 mod counter;
 mod fields;
+mod headers;
 mod lists;
 mod probe;
 mod spoiled;
@@ -41,6 +43,9 @@ fn main() {
         return parts::run("pieces", &mut Pieces::new(seed), &[("one list of calls", lists::show)]);
     }
     parts::run("pieces", &mut Pieces::new(parts::seed("pieces")), &[
+        ("header lists of 0 to 126 strings", headers::counts),
+        ("the table of answers for whole calls", headers::answers),
+        ("the table of answers for begins", begins::run),
         ("every call on good and spoiled states", spoiled::run),
         ("lists of calls beside the plain book", lists::run),
     ]);

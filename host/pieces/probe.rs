@@ -4,11 +4,19 @@ use crate::call::{Call, Kind};
 use crate::context::Context;
 use crate::state::{State, LEN};
 use shared::check;
-use shared::library::TAG_LEN;
-use shared::whole::Header;
+use shared::library::{Function, TAG_LEN};
+use shared::whole::{Given, Header};
 
 #[rustfmt::skip]
 unsafe extern "C" {
+    fn probe_seal(key: *const u8, key_len: usize, header: *const u8, header_len: usize, lens: *const u32, lens_len: usize,
+        input: *const u8, input_len: usize, output: *mut u8, output_len: usize, scratch: *mut u8, scratch_len: usize) -> u64;
+    fn probe_open(key: *const u8, key_len: usize, header: *const u8, header_len: usize, lens: *const u32, lens_len: usize,
+        input: *const u8, input_len: usize, output: *mut u8, output_len: usize, scratch: *mut u8, scratch_len: usize) -> u64;
+    fn probe_seal_pieces(key: *const u8, key_len: usize, header: *const u8, header_len: usize, lens: *const u32,
+        lens_len: usize, input: *const u8, input_len: usize, n: usize, output: *mut u8, output_len: usize) -> u64;
+    fn probe_open_pieces(key: *const u8, key_len: usize, header: *const u8, header_len: usize, lens: *const u32,
+        lens_len: usize, input: *const u8, input_len: usize, n: usize, output: *mut u8, output_len: usize) -> u64;
     fn probe_begin_sealer(key: *const u8, key_len: usize, header: *const u8, header_len: usize, lens: *const u32,
         lens_len: usize, state: *mut u8, state_len: usize) -> u64;
     fn probe_begin_opener(key: *const u8, key_len: usize, header: *const u8, header_len: usize, lens: *const u32,
@@ -31,6 +39,36 @@ fn answer(result: u64) -> Answer {
 }
 
 // In all that follows slices are valid for their lengths, never null, and those that are written overlap no other.
+
+/// A whole call.
+pub fn whole(function: Function, given: &Given, output: &mut [u8], scratch: &mut [u8]) -> Answer {
+    let raw = match function {
+        Function::Seal => probe_seal,
+        Function::Open => probe_open,
+    };
+    let Given { key, header: Header { bytes, lens }, input } = *given;
+    answer(unsafe {
+        raw(
+            key.as_ptr(), key.len(), bytes.as_ptr(), bytes.len(), lens.as_ptr(), lens.len(), input.as_ptr(), input.len(),
+            output.as_mut_ptr(), output.len(), scratch.as_mut_ptr(), scratch.len(),
+        )
+    })
+}
+
+/// A whole string by pieces of n bytes.
+pub fn by_pieces(function: Function, given: &Given, n: usize, output: &mut [u8]) -> Answer {
+    let raw = match function {
+        Function::Seal => probe_seal_pieces,
+        Function::Open => probe_open_pieces,
+    };
+    let Given { key, header: Header { bytes, lens }, input } = *given;
+    answer(unsafe {
+        raw(
+            key.as_ptr(), key.len(), bytes.as_ptr(), bytes.len(), lens.as_ptr(), lens.len(), input.as_ptr(), input.len(),
+            n, output.as_mut_ptr(), output.len(),
+        )
+    })
+}
 
 /// An opener's begin where there is a tag, else a sealer's.
 pub fn begin(key: &[u8], header: Header, tag: Option<&[u8]>, state: &mut State) -> Answer {
