@@ -19,7 +19,9 @@ include host/Makefile
 test:
 	@mkdir -p build
 	@rt ci 2>&1 | tee build/ci.log
-	@rt staticlib kinphlor >build/staticlib.log || { cat build/staticlib.log; exit 1; }
+	@for crate in kinphlor probe; do \
+	    rt staticlib $$crate >build/staticlib.log || { cat build/staticlib.log; exit 1; }; \
+	done
 	@$(MAKE) --no-print-directory host-test
 	@tail -n 1 build/ci.log
 
@@ -33,6 +35,7 @@ demo: lib
 	@$(HOST_OUT)/demo
 
 bench: lib
+	rt staticlib probe
 	@$(MAKE) --no-print-directory host-stack host-bench
 	@$(HOST_OUT)/bench
 

@@ -33,9 +33,6 @@ fn bench() {
     }
     report.section("Stack", machine::stack("target/host/stack"));
     report.section("Instructions", callgrind::describe("target/host/once"));
-    let pieces = pieces::table();
-    if !pieces.rows.is_empty() {
-        report.section("Pieces against the whole call", pieces.to_string());
-    }
+    report.section("Pieces against the whole call", pieces::table().to_string());
     report.write("docs/BENCHMARKS.md");
 }

@@ -75,7 +75,7 @@ fn measure(call: &mut Call, peers: [Option<&dyn Peer>; 2], want: &[u8]) -> (f64,
         call.run(by);
         check::bytes(|| format!("{:?} by {}", call.function, by.map_or("us", |p| p.name())), want, &call.output);
     }
-    let times = call.turns(&all);
+    let times = turns(all.len(), &mut |which| call.run(all[which]));
     let mut rest = times[1..].iter();
     let theirs = peers.map(|peer| peer.and_then(|_| rest.next()).map(|t| beside(&times[0], t)));
     (median(times[0].iter().copied()), theirs)
@@ -116,34 +116,35 @@ impl Call<'_> {
             fail("a call that is timed was refused".to_string());
         }
     }
+}
 
-    fn time(&mut self, by: Option<&dyn Peer>, calls: usize) -> Duration {
-        let start = processor_time();
-        for _ in 0..calls {
-            self.run(by);
-        }
-        processor_time() - start
+/// The processor time of some calls of one of several implementations.
+fn time(run: &mut dyn FnMut(usize), which: usize, calls: usize) -> Duration {
+    let start = processor_time();
+    for _ in 0..calls {
+        run(which);
     }
+    processor_time() - start
+}
 
-    /// The nanoseconds of a call in each turn, for each of them.
-    fn turns(&mut self, all: &[Option<&dyn Peer>]) -> Vec<Vec<f64>> {
-        let counts: Vec<usize> = all.iter().map(|&by| self.calls_for_a_sample(by)).collect();
-        let mut times = vec![vec![]; all.len()];
-        for _ in 0..TURNS {
-            for (i, &by) in all.iter().enumerate() {
-                times[i].push(self.time(by, counts[i]).as_nanos() as f64 / counts[i] as f64);
-            }
+/// The nanoseconds of a call in each turn, for each of several implementations; `run` calls the one of a number.
+pub fn turns(several: usize, run: &mut dyn FnMut(usize)) -> Vec<Vec<f64>> {
+    let counts: Vec<usize> = (0..several).map(|which| calls_for_a_sample(run, which)).collect();
+    let mut times = vec![vec![]; several];
+    for _ in 0..TURNS {
+        for (which, &calls) in counts.iter().enumerate() {
+            times[which].push(time(run, which, calls).as_nanos() as f64 / calls as f64);
         }
-        times
     }
+    times
+}
 
-    fn calls_for_a_sample(&mut self, by: Option<&dyn Peer>) -> usize {
-        let mut calls = 1;
-        while self.time(by, calls) < SAMPLE_TIME {
-            calls *= 2;
-        }
-        calls
+fn calls_for_a_sample(run: &mut dyn FnMut(usize), which: usize) -> usize {
+    let mut calls = 1;
+    while time(run, which, calls) < SAMPLE_TIME {
+        calls *= 2;
     }
+    calls
 }
 
 fn median(numbers: impl IntoIterator<Item = f64>) -> f64 {
@@ -152,6 +153,6 @@ fn median(numbers: impl IntoIterator<Item = f64>) -> f64 {
     sorted[sorted.len() / 2]
 }
 
-fn beside(ours: &[f64], theirs: &[f64]) -> Beside {
+pub fn beside(ours: &[f64], theirs: &[f64]) -> Beside {
     Beside { time: median(theirs.iter().copied()), ratio: median(ours.iter().zip(theirs).map(|(o, t)| o / t)) }
 }

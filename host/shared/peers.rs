@@ -81,6 +81,7 @@ fn width_index(half: usize) -> usize {
 /// are libgcrypt's alone. Empty header strings are right from 3.0.10 on (CVE-2023-2975); before, it skips them.
 pub struct Libcrypto {
     siv: [*mut c_void; 3],
+    ecb: [*mut c_void; 3],
     cbc: [*mut c_void; 3],
     ctr: [*mut c_void; 3],
 }
@@ -140,9 +141,15 @@ impl Libcrypto {
         };
         Libcrypto {
             siv: [c"AES-128-SIV", c"AES-192-SIV", c"AES-256-SIV"].map(fetch),
+            ecb: [c"AES-128-ECB", c"AES-192-ECB", c"AES-256-ECB"].map(fetch),
             cbc: [c"AES-128-CBC", c"AES-192-CBC", c"AES-256-CBC"].map(fetch),
             ctr: [c"AES-128-CTR", c"AES-192-CTR", c"AES-256-CTR"].map(fetch),
         }
+    }
+
+    /// The cipher on each block.
+    pub fn ecb(&self, key: &[u8], blocks: &[u8]) -> Vec<u8> {
+        Libcrypto::aes(&self.ecb, key, &[0; 16], true, blocks)
     }
 
     /// AES in CBC mode from a zero block, either way; on one block that is the cipher itself.

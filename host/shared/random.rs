@@ -21,4 +21,22 @@ impl Random {
         bytes.truncate(len);
         bytes
     }
+
+    /// Flips one bit; false where there is none.
+    pub fn flip(&mut self, bytes: &mut [u8]) -> bool {
+        if !bytes.is_empty() {
+            bytes[self.below(bytes.len())] ^= 1 << self.below(8);
+        }
+        !bytes.is_empty()
+    }
+
+    /// One of several.
+    pub fn pick<T: Copy>(&mut self, things: &[T]) -> T {
+        things[self.below(things.len())]
+    }
+
+    /// True once in `times`.
+    pub fn once_in(&mut self, times: usize) -> bool {
+        self.below(times) == 0
+    }
 }

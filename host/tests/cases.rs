@@ -1,12 +1,13 @@
 //! What is run: records against both peers, damage, the table of answers, and tags chosen by their end.
 
-use crate::chosen;
+use shared::answers::{Calls, Lens};
 use shared::check;
+use shared::chosen;
 use shared::library::{Args, Function, KEY_LENS, LIMIT, TAG_LEN};
 use shared::peers::{Libcrypto, Libgcrypt, Peer};
 use shared::random::Random;
+use shared::whole::{self, Given, Header, Room, Want};
 use std::collections::BTreeSet;
-use std::sync::OnceLock;
 use Function::{Open, Seal};
 
 const AD_LENS: [usize; 5] = [0, 1, 15, 16, 17];
@@ -42,107 +43,33 @@ impl Record {
     }
 
     fn run_in(&self, function: Function, room: Room, want: Want) -> Vec<u8> {
-        let args = Args {
-            key: &self.key,
-            header: &self.header().concat(),
-            ad_len: self.ad.len() as u32,
-            nonce_len: self.nonce.len() as u32,
-            input: &self.text,
-        };
-        run(function, &args, room, want)
+        let lens = [self.ad.len() as u32, self.nonce.len() as u32];
+        let header = Header { bytes: &self.header().concat(), lens: &lens };
+        whole::run(call, function, &Given { key: &self.key, header, input: &self.text }, room, want)
     }
 }
 
-/// Lengths of the memory lent for writing.
-#[derive(Clone, Copy)]
-struct Room {
-    output: usize,
-    scratch: usize,
-}
-
-impl Room {
-    fn need(function: Function, input_len: usize) -> Room {
-        Room { output: function.output_need(input_len), scratch: function.scratch_need(input_len) }
-    }
-}
-
-/// What a call must do.
-enum Want<'a> {
-    Written(&'a [u8]),
-    Refused(u64),
-    Forged,
-}
-
-/// Lent memory, filled with a pattern that has no zero byte, between two guards of the same pattern.
-struct Lent {
-    memory: Vec<u8>,
-    len: usize,
-}
-
-const GUARD: usize = 32;
-
-impl Lent {
-    fn new(len: usize) -> Lent {
-        Lent { memory: Lent::pattern(len + 2 * GUARD).to_vec(), len }
-    }
-
-    /// The pattern's first bytes, made once.
-    fn pattern(len: usize) -> &'static [u8] {
-        static PATTERN: OnceLock<Vec<u8>> = OnceLock::new();
-        &PATTERN.get_or_init(|| (0..LIMIT + 1024).map(|i| (i as u8).wrapping_mul(31) | 1).collect())[..len]
-    }
-
-    fn slice(&mut self) -> &mut [u8] {
-        &mut self.memory[GUARD..GUARD + self.len]
-    }
-
-    /// It holds `front`, and the pattern in all later bytes and in the guards.
-    fn check(&self, what: impl Fn(&str) -> String, front: &[u8]) {
-        let pattern = Lent::pattern(self.memory.len());
-        let later = GUARD + front.len();
-        check::bytes(|| what("front"), front, &self.memory[GUARD..later]);
-        check::bytes(|| what("memory before it"), &pattern[..GUARD], &self.memory[..GUARD]);
-        check::bytes(|| what("later bytes"), &pattern[later..], &self.memory[later..]);
-    }
-}
-
-/// One call: its number, its length and every byte of the lent memory. Gives what is at the front of the output.
-fn run(function: Function, args: &Args, room: Room, want: Want) -> Vec<u8> {
-    let n = function.plain_len(args.input.len());
-    let (answer, front, wiped) = match want {
-        Want::Written(bytes) => ((0, bytes.len() as u64), bytes.to_vec(), function.scratch_need(args.input.len())),
-        Want::Refused(number) => ((number, 0), vec![], 0),
-        Want::Forged => ((8, 0), vec![0; n], function.scratch_need(args.input.len())),
-    };
-    let (mut output, mut scratch) = (Lent::new(room.output), Lent::new(room.scratch));
-    let got = function.call(args, output.slice(), scratch.slice());
-
-    let call = || {
-        format!(
-            "{function:?}, lengths: key {}, header {} (ad {}, nonce {}), input {}, output {}, scratch {}",
-            args.key.len(), args.header.len(), args.ad_len, args.nonce_len, args.input.len(), room.output, room.scratch
-        )
-    };
-    check::holds(|| format!("{}: expected number and length {answer:?}, got {got:?}", call()), got == answer);
-    output.check(|part| format!("{}: answer {got:?}, output, {part}", call()), &front);
-    scratch.check(|part| format!("{}: answer {got:?}, scratch, {part}", call()), &vec![0; wiped]);
-    output.slice()[..front.len()].to_vec()
+/// A call of the archive's: the header is associated data and nonce.
+fn call(function: Function, given: &Given, output: &mut [u8], scratch: &mut [u8]) -> (u64, u64) {
+    let Given { key, header, input } = *given;
+    let args = Args { key, header: header.bytes, ad_len: header.lens[0], nonce_len: header.lens[1], input };
+    function.call(&args, output, scratch)
 }
 
 /// Ways to damage a sealed record. One that has nothing to damage says so with false.
 const DAMAGES: [(&str, fn(&mut Record, &mut Random) -> bool); 9] = [
-    ("tag", |r, random| flip(&mut r.text[..TAG_LEN], random)),
-    ("text", |r, random| flip(&mut r.text[TAG_LEN..], random)),
-    ("associated data", |r, random| flip(&mut r.ad, random)),
-    ("nonce", |r, random| flip(&mut r.nonce, random)),
+    ("tag", |r, random| random.flip(&mut r.text[..TAG_LEN])),
+    ("text", |r, random| random.flip(&mut r.text[TAG_LEN..])),
+    ("associated data", |r, random| random.flip(&mut r.ad)),
+    ("nonce", |r, random| random.flip(&mut r.nonce)),
     ("first half of the key", |r, random| {
         let half = r.key.len() / 2;
-        flip(&mut r.key[..half], random)
+        random.flip(&mut r.key[..half])
     }),
     // This half gives the key stream: an empty plaintext has none, and the few bytes of a short one may come out the same.
     ("second half of the key", |r, random| {
         let half = r.key.len() / 2;
-        r.text.len() >= TAG_LEN + 16 && flip(&mut r.key[half..], random)
+        r.text.len() >= TAG_LEN + 16 && random.flip(&mut r.key[half..])
     }),
     ("place where the nonce starts", |r, _| {
         let moves = r.nonce.len() > 1;
@@ -160,14 +87,6 @@ const DAMAGES: [(&str, fn(&mut Record, &mut Random) -> bool); 9] = [
         fits
     }),
 ];
-
-/// Flips one bit.
-fn flip(bytes: &mut [u8], random: &mut Random) -> bool {
-    if !bytes.is_empty() {
-        bytes[random.below(bytes.len())] ^= 1 << random.below(8);
-    }
-    !bytes.is_empty()
-}
 
 pub struct Cases {
     pub libcrypto: Libcrypto,
@@ -312,15 +231,12 @@ impl Cases {
             for n in [40, 41, 48, 100, 4099, LIMIT] {
                 let last = (n as u64 - 1) / 16;
                 let places = BTreeSet::from(if n < LIMIT { [1, 2, last] } else { [last; 3] });
-                let carries = [(1, 8), (2, 16), (3, 24), (4, 31), (4, 32)].into_iter().flat_map(|(count, bits)| {
-                    let end = move |at: u64| (1u64 << bits).wrapping_sub(at).to_be_bytes()[8 - count..].to_vec();
-                    places.iter().map(move |&at| end(at))
-                });
-                for end in carries.chain([vec![0x3a, 0x10], vec![0xff; TAG_LEN]]) {
+                let at_places = |carry| places.iter().map(move |&at| chosen::carrying(carry, at));
+                for end in chosen::CARRIES.into_iter().flat_map(at_places).chain([vec![0x3a, 0x10], vec![0xff; TAG_LEN]]) {
                     let mut record = Record::random(&mut random, key_len, 20, 12, n);
-                    let mut tag: [u8; TAG_LEN] = random.bytes(TAG_LEN).try_into().unwrap();
-                    tag[TAG_LEN - end.len()..].copy_from_slice(&end);
-                    record.text = chosen::plaintext(&self.libcrypto, &record.key, &record.header(), &tag, record.text.clone());
+                    let tag = chosen::tag(&mut random, &end);
+                    let text = record.text.clone();
+                    record.text = chosen::plaintext(&self.libcrypto, &record.key, &record.header(), &tag, text);
                     let sealed = self.compare(&record);
                     check::bytes(|| format!("the tag chosen for {n} bytes"), &tag, &sealed.text[..TAG_LEN]);
                 }
@@ -330,125 +246,16 @@ impl Cases {
 
     /// The table of answers: every case with at most three things out of the ordinary.
     pub fn answers(&mut self) {
-        let bytes = self.random.bytes(LIMIT + 64);
-        for function in [Seal, Open] {
-            let mut due_together = BTreeSet::new();
-            for case in Case::all(function) {
-                let due: Vec<u64> = REFUSALS.iter().filter(|(_, applies)| applies(&case)).map(|r| r.0).collect();
-                for (i, &first) in due.iter().enumerate() {
-                    due_together.extend(due[i..].iter().map(|&other| (first, other)));
-                }
-                self.answer(&case, due.first().copied(), &bytes);
-            }
-            for (i, &(first, _)) in REFUSALS.iter().enumerate() {
-                for &(other, _) in &REFUSALS[i..] {
-                    let never = NEVER_TOGETHER.contains(&(first, other))
-                        || function == Seal && [5, 8].iter().any(|open_only| [first, other].contains(open_only));
-                    check::holds(
-                        || format!("{function:?}: {first} and {other} due at once: the cases have it: {never}"),
-                        due_together.contains(&(first, other)) != never,
-                    );
-                }
-            }
-        }
-    }
-
-    fn answer(&mut self, case: &Case, refusal: Option<u64>, bytes: &[u8]) {
-        let (ad_len, nonce_len, header_len) = case.header;
-        let mut args = Args {
-            key: &bytes[..case.key_len],
-            header: &bytes[1..1 + header_len],
-            ad_len,
-            nonce_len,
-            input: &bytes[..case.input_len],
-        };
-        // Where the header can be split and the key used, there is a record that a peer sealed.
-        let usable = !REFUSALS[..5].iter().any(|(_, applies)| applies(case));
-        let plain = &bytes[..case.function.plain_len(case.input_len)];
-        let mut sealed = vec![];
-        if usable {
-            let (ad, nonce) = args.header.split_at(ad_len as usize);
-            sealed = self.libgcrypt.seal(args.key, &[ad, nonce], plain);
-            if case.function == Open {
-                if case.damaged {
-                    flip(&mut sealed, &mut self.random);
-                }
-                args.input = &sealed;
-            }
-        }
-        let want = match (refusal, case.function) {
-            (Some(8), _) => Want::Forged,
-            (Some(number), _) => Want::Refused(number),
-            (None, Seal) => Want::Written(&sealed),
-            (None, Open) => Want::Written(plain),
-        };
-        run(case.function, &args, case.room(), want);
+        let lists = HEADER_LENS.map(|(ad_len, nonce_len, header_len)| -> Lens { (vec![ad_len, nonce_len], header_len) });
+        Calls { make: call, lists: &lists, without: 2 }.check(&self.libgcrypt, &mut self.random, 3);
     }
 }
 
-/// Lengths and numbers of a call.
-struct Case {
-    function: Function,
-    key_len: usize,
-    /// ad_len, nonce_len and the header's own length
-    header: (u32, u32, usize),
-    input_len: usize,
-    output: fn(usize) -> usize,
-    scratch: fn(usize) -> usize,
-    damaged: bool,
-}
-
-/// The refusals in the order in which they are given, each with its condition.
-const REFUSALS: [(u64, fn(&Case) -> bool); 8] = [
-    (1, |c| !KEY_LENS.contains(&c.key_len)),
-    (10, |c| c.header.1 == 0),
-    (3, |c| c.header.0 as u64 + c.header.1 as u64 != c.header.2 as u64),
-    (5, |c| c.function == Open && c.input_len < TAG_LEN),
-    (4, |c| c.function.plain_len(c.input_len) > LIMIT),
-    (6, |c| c.room().output < c.function.output_need(c.input_len)),
-    (7, |c| c.room().scratch < c.function.scratch_need(c.input_len)),
-    (8, |c| c.function == Open && c.damaged && c.input_len >= TAG_LEN),
-];
-
-/// A sealed string under 16 bytes is not too long, needs no output and has no tag.
-const NEVER_TOGETHER: [(u64, u64); 3] = [(5, 4), (5, 6), (5, 8)];
-
-/// What a case is made of; the first of each is the ordinary one. The last two headers sum to their length in 32 bits.
-const CASE_KEYS: [usize; 12] = [32, 48, 64, 0, 16, 31, 33, 47, 49, 63, 65, 128];
-const CASE_HEADERS: [(u32, u32, usize); 10] = [
+/// Associated data, nonce and header. The last two sum to their length in 32 bits.
+const HEADER_LENS: [(u32, u32, usize); 10] = [
     (20, 12, 32), (0, 12, 12), (20, 0, 20), (0, 0, 0), (0, 0, 1), (20, 12, 31), (20, 12, 33), (20, 12, 0),
     (u32::MAX, 33, 32), (1 << 31, 1 << 31, 0),
 ];
-const CASE_INPUTS: [usize; 9] = [40, 0, 15, 16, 17, LIMIT, LIMIT + 1, LIMIT + TAG_LEN, LIMIT + TAG_LEN + 1];
-const CASE_ROOMS: [fn(usize) -> usize; 5] =
-    [|need| need, |need| need + 5, |need| need.saturating_sub(1), |need| need.saturating_sub(16), |_| 0];
-
-impl Case {
-    fn room(&self) -> Room {
-        let need = Room::need(self.function, self.input_len);
-        Room { output: (self.output)(need.output), scratch: (self.scratch)(need.scratch) }
-    }
-
-    fn all(function: Function) -> impl Iterator<Item = Case> {
-        let counts = [CASE_KEYS.len(), CASE_HEADERS.len(), CASE_INPUTS.len(), CASE_ROOMS.len(), CASE_ROOMS.len(), 2];
-        (0..counts.iter().product()).filter_map(move |mut code: usize| {
-            let at = counts.map(|count| {
-                let index = code % count;
-                code /= count;
-                index
-            });
-            (at.iter().filter(|&&index| index != 0).count() <= 3).then(|| Case {
-                function,
-                key_len: CASE_KEYS[at[0]],
-                header: CASE_HEADERS[at[1]],
-                input_len: CASE_INPUTS[at[2]],
-                output: CASE_ROOMS[at[3]],
-                scratch: CASE_ROOMS[at[4]],
-                damaged: at[5] == 1,
-            })
-        })
-    }
-}
 
 fn unhex(text: &str) -> Vec<u8> {
     let digits: Vec<u32> = text.chars().filter_map(|c| c.to_digit(16)).collect();

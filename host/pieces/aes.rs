@@ -1,0 +1,42 @@
+//! AES below the modes, by libcrypto: the round keys of a key, and the cipher under any round keys.
+
+use shared::check;
+use shared::mac::Block;
+use std::ffi::c_int;
+
+/// libcrypto's AES_KEY. The round keys stand in it as in FIPS 197.
+#[repr(C, align(4))]
+struct Schedule {
+    round_keys: [u8; 240],
+    rounds: c_int,
+}
+
+unsafe extern "C" {
+    fn AES_set_encrypt_key(key: *const u8, bits: c_int, schedule: *mut Schedule) -> c_int;
+    fn AES_encrypt(input: *const u8, output: *mut u8, schedule: *const Schedule);
+}
+
+/// A key's round keys, and zeros past its own rounds.
+pub fn round_keys(key: &[u8]) -> [u8; 240] {
+    let mut schedule = Schedule { round_keys: [0; 240], rounds: 0 };
+    let error = unsafe { AES_set_encrypt_key(key.as_ptr(), 8 * key.len() as c_int, &mut schedule) };
+    if error != 0 || !schedule.round_keys.starts_with(key) {
+        check::fail("libcrypto's AES_set_encrypt_key failed, or has round keys in another order than FIPS 197".to_string());
+    }
+    schedule.round_keys
+}
+
+pub struct Cipher(Schedule);
+
+impl Cipher {
+    /// The cipher for keys of `width` bytes under round keys that need be no key's.
+    pub fn new(width: u64, round_keys: &[u8]) -> Cipher {
+        Cipher(Schedule { round_keys: round_keys.try_into().unwrap(), rounds: (width / 4 + 6) as c_int })
+    }
+
+    pub fn block(&self, block: Block) -> Block {
+        let mut out = [0; 16];
+        unsafe { AES_encrypt(block.as_ptr(), out.as_mut_ptr(), &self.0) };
+        out
+    }
+}

@@ -1,0 +1,96 @@
+//! The plain book of document 01, with the peers' tags, openings and AES: what any list of calls after a begin must answer.
+//! It sees the arguments of begin and of the calls, and no state.
+
+use crate::call::{Call, Kind};
+use crate::context::{Context, Peers};
+use crate::counter;
+use shared::probe::Answer;
+use shared::library::{LIMIT, TAG_LEN};
+use shared::mac::Block;
+
+pub struct Book<'a> {
+    peers: &'a Peers,
+    context: &'a Context,
+    pub stage: u64,
+    /// A: the bytes added or fed.
+    pub a: Vec<u8>,
+    /// W: the bytes written.
+    pub w: Vec<u8>,
+    /// The opener's T, or the tag of sealing A from turn on; zeros before.
+    pub tag: Block,
+}
+
+impl<'a> Book<'a> {
+    /// After an opener's begin where there is a tag, else after a sealer's.
+    pub fn new(peers: &'a Peers, context: &'a Context, tag: Option<Block>) -> Book<'a> {
+        let stage = if tag.is_some() { 3 } else { 1 };
+        Book { peers, context, stage, a: vec![], w: vec![], tag: tag.unwrap_or_default() }
+    }
+
+    /// A piece xored with the key stream of the tag.
+    fn xored(&self, piece: &[u8], place: usize) -> Vec<u8> {
+        let key = &self.context.key[self.context.key.len() / 2..];
+        counter::xored(piece, self.tag, place, |blocks| self.peers.libcrypto.ecb(key, blocks))
+    }
+
+    /// The plaintext that was added, or that what was fed is deciphered to.
+    pub fn plain(&self) -> Vec<u8> {
+        if self.stage == 3 { self.xored(&self.a, 0) } else { self.a.clone() }
+    }
+
+    /// A call's answer. What it writes goes to `output`.
+    pub fn call(&mut self, call: &Call, output: &mut [u8]) -> Answer {
+        let (piece, n) = (&call.piece, call.piece.len());
+        let total = self.a.len();
+        if self.stage != call.kind.wants() {
+            return (9, 0);
+        }
+        match call.kind {
+            Kind::Add | Kind::Feed if total + n > LIMIT => (4, 0),
+            Kind::Add => {
+                self.a.extend(piece);
+                (0, 0)
+            }
+            Kind::Turn if output.len() < TAG_LEN => (6, 0),
+            Kind::Turn => {
+                self.tag = self.peers.seal(self.context, &self.a)[..TAG_LEN].try_into().unwrap();
+                output[..TAG_LEN].copy_from_slice(&self.tag);
+                self.stage = 2;
+                (0, TAG_LEN as u64)
+            }
+            Kind::Write if self.w.len() + n > total => (4, 0),
+            Kind::Write if output.len() < n => (6, 0),
+            Kind::Write => {
+                output[..n].copy_from_slice(&self.xored(piece, self.w.len()));
+                self.w.extend(piece);
+                (0, n as u64)
+            }
+            Kind::Close if self.w.len() < total => (9, 0),
+            Kind::Close => {
+                self.stage = 0;
+                (0, 0)
+            }
+            Kind::Feed if output.len() < total + n => (6, 0),
+            Kind::Feed => {
+                output[total..total + n].copy_from_slice(&self.xored(piece, total));
+                self.a.extend(piece);
+                (0, n as u64)
+            }
+            // The opener's one output has room for all that was fed; where finish is lent less, the table has 6.
+            Kind::Finish if output.len() < total => (6, 0),
+            Kind::Finish => {
+                self.stage = 0;
+                match self.peers.open(self.context, &[&self.tag[..], &self.a].concat()) {
+                    Some(plain) => {
+                        output[..total].copy_from_slice(&plain);
+                        (0, total as u64)
+                    }
+                    None => {
+                        output[..total].fill(0);
+                        (8, 0)
+                    }
+                }
+            }
+        }
+    }
+}

@@ -1,0 +1,43 @@
+//! The state that stands where the book is, field by field as document 01 has them, with libcrypto's AES.
+
+use crate::aes;
+use crate::book::Book;
+use crate::context::{Context, Peers};
+use crate::state::{hold_len, Field, State};
+use shared::mac::Mac;
+
+pub struct Fields<'a> {
+    mac: Mac<'a>,
+    /// What begin makes and no later call changes: key width, round keys, L and D.
+    begun: State,
+}
+
+impl<'a> Fields<'a> {
+    pub fn new(peers: &'a Peers, context: &'a Context) -> Fields<'a> {
+        let mac = Mac::new(&peers.libcrypto, &context.key);
+        let (mac_key, ctr_key) = context.key.split_at(context.key.len() / 2);
+        let mut begun = State::ENDED;
+        begun.set_number(Field::Width, mac_key.len() as u64);
+        begun.set(Field::MacKeys, &aes::round_keys(mac_key));
+        begun.set(Field::CtrKeys, &aes::round_keys(ctr_key));
+        begun.set(Field::L, &mac.l());
+        begun.set(Field::D, &mac.header_result(&context.strings()));
+        Fields { mac, begun }
+    }
+
+    pub fn state(&self, book: &Book) -> State {
+        if book.stage == 0 {
+            return State::ENDED;
+        }
+        let plain = book.plain();
+        let (passed, held) = plain.split_at(plain.len() - hold_len(plain.len() as u64));
+        let mut state = self.begun.clone();
+        state.set_number(Field::Stage, book.stage);
+        state.set(Field::Chain, &self.mac.chain(passed));
+        state.set(Field::V, &book.tag);
+        state.set_number(Field::Total, book.a.len() as u64);
+        state.set_number(Field::Written, book.w.len() as u64);
+        state.set_tail(held);
+        state
+    }
+}

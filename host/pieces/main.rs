@@ -1,0 +1,52 @@
+//! libprobe.a against models that have their tags, openings and AES from OpenSSL's libcrypto and libgcrypt: whole calls
+//! with any header list, and piecewise sealing and opening. Its last line is `pieces: N checks passed`.
+//! With a seed as its argument it runs the one list of calls that this seed makes, and prints each call.
+
+mod aes;
+mod begins;
+mod book;
+mod call;
+mod context;
+mod counter;
+mod fields;
+mod headers;
+mod lists;
+mod probe;
+mod spoiled;
+mod state;
+mod steps;
+
+use context::Peers;
+use shared::library::LIMIT;
+use shared::peers::{Libcrypto, Libgcrypt};
+use shared::random::Random;
+use shared::{check, parts};
+
+struct Pieces {
+    peers: Peers,
+    seed: u64,
+    random: Random,
+    /// Bytes that are nobody's, the same for every seed.
+    noise: Vec<u8>,
+}
+
+impl Pieces {
+    fn new(seed: u64) -> Pieces {
+        let peers = Peers { libcrypto: Libcrypto::new(), libgcrypt: Libgcrypt::new() };
+        Pieces { peers, seed, random: Random(seed), noise: Random(0).bytes(LIMIT + 4096) }
+    }
+}
+
+fn main() {
+    if let Some(text) = std::env::args().nth(1) {
+        let seed = text.parse().unwrap_or_else(|_| check::fail(format!("the seed is no number: {text}")));
+        return parts::run("pieces", &mut Pieces::new(seed), &[("one list of calls", lists::show)]);
+    }
+    parts::run("pieces", &mut Pieces::new(parts::seed("pieces")), &[
+        ("header lists of 0 to 126 strings", headers::counts),
+        ("the table of answers for whole calls", headers::answers),
+        ("the table of answers for begins", begins::run),
+        ("every call on good and spoiled states", spoiled::run),
+        ("lists of calls beside the plain book", lists::run),
+    ]);
+}

@@ -1,0 +1,122 @@
+//! The table of answers for whole calls, each case with a few things out of the ordinary.
+
+use crate::library::{Function, KEY_LENS, LIMIT, TAG_LEN};
+use crate::peers::{Libgcrypt, Peer};
+use crate::random::Random;
+use crate::table::{choices, Together};
+use crate::whole::{self, Given, Header, Maker, Room, Want};
+use Function::{Open, Seal};
+
+/// The lengths of a header list: its strings', and that of their bytes.
+pub type Lens = (Vec<u32>, usize);
+
+/// Whole calls of one kind.
+pub struct Calls<'a> {
+    pub make: Maker,
+    /// The header lists to give them, the ordinary one first.
+    pub lists: &'a [Lens],
+    /// The refusal that no list has them give: 2 with two strings always, 10 where the nonce is a string as any other.
+    pub without: u64,
+}
+
+/// Lengths and numbers of a call.
+struct Case<'a> {
+    function: Function,
+    key_len: usize,
+    header: &'a Lens,
+    input_len: usize,
+    output: fn(usize) -> usize,
+    scratch: fn(usize) -> usize,
+    damaged: bool,
+}
+
+type Row = (u64, fn(&Case) -> bool);
+
+/// The refusals in the order in which they are given, each with its condition.
+const REFUSALS: [Row; 9] = [
+    (1, |c| !KEY_LENS.contains(&c.key_len)),
+    (10, |c| c.header.0[1] == 0),
+    (2, |c| c.header.0.len() > 126),
+    (3, |c| c.header.0.iter().map(|&len| len as u64).sum::<u64>() != c.header.1 as u64),
+    (5, |c| c.function == Open && c.input_len < TAG_LEN),
+    (4, |c| c.function.plain_len(c.input_len) > LIMIT),
+    (6, |c| c.room().output < c.function.output_need(c.input_len)),
+    (7, |c| c.room().scratch < c.function.scratch_need(c.input_len)),
+    (8, |c| c.function == Open && c.damaged && c.input_len >= TAG_LEN),
+];
+
+/// Those that leave no record that a peer could seal.
+const UNUSABLE: [u64; 6] = [1, 10, 2, 3, 5, 4];
+
+/// A sealed string under 16 bytes is not too long, needs no output and has no tag.
+const NEVER_TOGETHER: [(u64, u64); 3] = [(5, 4), (5, 6), (5, 8)];
+
+/// What a case is made of beside its header; the first of each is the ordinary one.
+const KEYS: [usize; 12] = [32, 48, 64, 0, 16, 31, 33, 47, 49, 63, 65, 128];
+const INPUTS: [usize; 9] = [40, 0, 15, 16, 17, LIMIT, LIMIT + 1, LIMIT + TAG_LEN, LIMIT + TAG_LEN + 1];
+const ROOMS: [fn(usize) -> usize; 5] =
+    [|need| need, |need| need + 5, |need| need.saturating_sub(1), |need| need.saturating_sub(16), |_| 0];
+
+impl<'a> Case<'a> {
+    fn room(&self) -> Room {
+        let need = Room::need(self.function, self.input_len);
+        Room { output: (self.output)(need.output), scratch: (self.scratch)(need.scratch) }
+    }
+
+    fn all(function: Function, lists: &'a [Lens], unusual: usize) -> impl Iterator<Item = Case<'a>> {
+        let counts = [KEYS.len(), lists.len(), INPUTS.len(), ROOMS.len(), ROOMS.len(), 2];
+        choices(counts, unusual).map(move |at| Case {
+            function,
+            key_len: KEYS[at[0]],
+            header: &lists[at[1]],
+            input_len: INPUTS[at[2]],
+            output: ROOMS[at[3]],
+            scratch: ROOMS[at[4]],
+            damaged: at[5] == 1,
+        })
+    }
+}
+
+impl Calls<'_> {
+    /// Every case with at most `unusual` things out of the ordinary.
+    pub fn check(&self, libgcrypt: &Libgcrypt, random: &mut Random, unusual: usize) {
+        let bytes = random.bytes(LIMIT + 64);
+        for function in [Seal, Open] {
+            let mut together = Together::default();
+            for case in Case::all(function, self.lists, unusual) {
+                let rows = REFUSALS.iter().filter(|(number, applies)| *number != self.without && applies(&case));
+                let due: Vec<u64> = rows.map(|row| row.0).collect();
+                together.note(&due);
+                self.check_case(libgcrypt, random, &case, &due, &bytes);
+            }
+            together.check(&format!("{function:?}"), &REFUSALS.map(|row| row.0), |first, other| {
+                let never = |number| number == self.without || function == Seal && [5, 8].contains(&number);
+                never(first) || never(other) || NEVER_TOGETHER.contains(&(first, other))
+            });
+        }
+    }
+
+    fn check_case(&self, libgcrypt: &Libgcrypt, random: &mut Random, case: &Case, due: &[u64], bytes: &[u8]) {
+        let (lens, header_len) = case.header;
+        let header = Header { bytes: &bytes[1..1 + header_len], lens };
+        let mut given = Given { key: &bytes[..case.key_len], header, input: &bytes[..case.input_len] };
+        let plain = &bytes[..case.function.plain_len(case.input_len)];
+        let mut sealed = vec![];
+        if !due.iter().any(|number| UNUSABLE.contains(number)) {
+            sealed = libgcrypt.seal(given.key, &header.strings(), plain);
+            if case.function == Open {
+                if case.damaged {
+                    random.flip(&mut sealed);
+                }
+                given.input = &sealed;
+            }
+        }
+        let want = match (due.first(), case.function) {
+            (Some(8), _) => Want::Forged,
+            (Some(&number), _) => Want::Refused(number),
+            (None, Seal) => Want::Written(&sealed),
+            (None, Open) => Want::Written(plain),
+        };
+        whole::run(self.make, case.function, &given, case.room(), want);
+    }
+}

@@ -1,0 +1,55 @@
+//! The whole calls of libprobe.a, with any header list, and a whole string by pieces, as safe Rust.
+
+use crate::library::Function;
+use crate::whole::{Given, Header};
+
+#[rustfmt::skip]
+unsafe extern "C" {
+    fn probe_seal(key: *const u8, key_len: usize, header: *const u8, header_len: usize, lens: *const u32, lens_len: usize,
+        input: *const u8, input_len: usize, output: *mut u8, output_len: usize, scratch: *mut u8, scratch_len: usize) -> u64;
+    fn probe_open(key: *const u8, key_len: usize, header: *const u8, header_len: usize, lens: *const u32, lens_len: usize,
+        input: *const u8, input_len: usize, output: *mut u8, output_len: usize, scratch: *mut u8, scratch_len: usize) -> u64;
+    fn probe_seal_pieces(key: *const u8, key_len: usize, header: *const u8, header_len: usize, lens: *const u32,
+        lens_len: usize, input: *const u8, input_len: usize, n: usize, output: *mut u8, output_len: usize) -> u64;
+    fn probe_open_pieces(key: *const u8, key_len: usize, header: *const u8, header_len: usize, lens: *const u32,
+        lens_len: usize, input: *const u8, input_len: usize, n: usize, output: *mut u8, output_len: usize) -> u64;
+}
+
+/// A number and a length.
+pub type Answer = (u64, u64);
+
+pub fn answer(result: u64) -> Answer {
+    (result >> 32, result & 0xffff_ffff)
+}
+
+// In all that follows slices are valid for their lengths, never null, and those that are written overlap no other.
+
+/// A whole call.
+pub fn whole(function: Function, given: &Given, output: &mut [u8], scratch: &mut [u8]) -> Answer {
+    let raw = match function {
+        Function::Seal => probe_seal,
+        Function::Open => probe_open,
+    };
+    let Given { key, header: Header { bytes, lens }, input } = *given;
+    answer(unsafe {
+        raw(
+            key.as_ptr(), key.len(), bytes.as_ptr(), bytes.len(), lens.as_ptr(), lens.len(), input.as_ptr(), input.len(),
+            output.as_mut_ptr(), output.len(), scratch.as_mut_ptr(), scratch.len(),
+        )
+    })
+}
+
+/// A whole string by pieces of n bytes.
+pub fn by_pieces(function: Function, given: &Given, n: usize, output: &mut [u8]) -> Answer {
+    let raw = match function {
+        Function::Seal => probe_seal_pieces,
+        Function::Open => probe_open_pieces,
+    };
+    let Given { key, header: Header { bytes, lens }, input } = *given;
+    answer(unsafe {
+        raw(
+            key.as_ptr(), key.len(), bytes.as_ptr(), bytes.len(), lens.as_ptr(), lens.len(), input.as_ptr(), input.len(),
+            n, output.as_mut_ptr(), output.len(),
+        )
+    })
+}

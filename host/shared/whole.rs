@@ -1,0 +1,88 @@
+//! One whole call, with every byte of the memory lent to it.
+
+use crate::check;
+use crate::lent::Lent;
+use crate::library::Function;
+use std::fmt;
+
+/// A header list as calls take it: the strings joined, and their lengths.
+#[derive(Clone, Copy)]
+pub struct Header<'a> {
+    pub bytes: &'a [u8],
+    pub lens: &'a [u32],
+}
+
+impl<'a> Header<'a> {
+    /// The strings, where the lengths sum to the bytes.
+    pub fn strings(self) -> Vec<&'a [u8]> {
+        let ends = self.lens.iter().scan(0, |end, &len| {
+            *end += len as usize;
+            Some((*end - len as usize, *end))
+        });
+        ends.map(|(start, end)| &self.bytes[start..end]).collect()
+    }
+}
+
+/// Its lengths.
+impl fmt::Display for Header<'_> {
+    fn fmt(&self, f: &mut fmt::Formatter) -> fmt::Result {
+        match self.lens.len() {
+            0..8 => write!(f, "{} in strings of {:?}", self.bytes.len(), self.lens),
+            count => write!(f, "{} in {count} strings", self.bytes.len()),
+        }
+    }
+}
+
+/// What a call reads.
+#[derive(Clone, Copy)]
+pub struct Given<'a> {
+    pub key: &'a [u8],
+    pub header: Header<'a>,
+    pub input: &'a [u8],
+}
+
+/// Makes a whole call with an output and a scratch; gives the answer's number and length.
+pub type Maker = fn(Function, &Given, &mut [u8], &mut [u8]) -> (u64, u64);
+
+/// Lengths of the memory lent for writing.
+#[derive(Clone, Copy)]
+pub struct Room {
+    pub output: usize,
+    pub scratch: usize,
+}
+
+impl Room {
+    pub fn need(function: Function, input_len: usize) -> Room {
+        Room { output: function.output_need(input_len), scratch: function.scratch_need(input_len) }
+    }
+}
+
+/// What a call must do.
+pub enum Want<'a> {
+    Written(&'a [u8]),
+    Refused(u64),
+    Forged,
+}
+
+/// One call: its number, its length and every byte of the lent memory. Gives what is at the front of the output.
+pub fn run(make: Maker, function: Function, given: &Given, room: Room, want: Want) -> Vec<u8> {
+    let input_len = given.input.len();
+    let (answer, front, wiped) = match want {
+        Want::Written(bytes) => ((0, bytes.len() as u64), bytes.to_vec(), function.scratch_need(input_len)),
+        Want::Refused(number) => ((number, 0), vec![], 0),
+        Want::Forged => ((8, 0), vec![0; function.plain_len(input_len)], function.scratch_need(input_len)),
+    };
+    let (mut output, mut scratch) = (Lent::new(room.output), Lent::new(room.scratch));
+    let got = make(function, given, output.slice(), scratch.slice());
+
+    let call = || {
+        format!(
+            "{function:?}, lengths: key {}, header {}, input {input_len}, output {}, scratch {}",
+            given.key.len(), given.header, room.output, room.scratch
+        )
+    };
+    check::holds(|| format!("{}: expected number and length {answer:?}, got {got:?}", call()), got == answer);
+    output.check(|part| format!("{}: answer {got:?}, output, {part}", call()), &front);
+    scratch.check(|part| format!("{}: answer {got:?}, scratch, {part}", call()), &vec![0; wiped]);
+    front
+}
