@@ -33,6 +33,6 @@ fn bench() {
     }
     report.section("Stack", machine::stack("target/host/stack"));
     report.section("Instructions", callgrind::describe("target/host/once"));
-    report.section("Pieces against the whole call", pieces::table().to_string());
+    report.section("Pieces against the whole call", pieces::describe());
     report.write("docs/BENCHMARKS.md");
 }

@@ -13,11 +13,37 @@ use Function::{Open, Seal};
 const LENS: [usize; 4] = [40, 1024, 65_536, 1_048_576];
 const PIECES: [usize; 3] = [16, 64, 4096];
 
-/// A row for each key and plaintext: the time in pieces over that of the whole call.
-pub fn table() -> Table {
+/// A target: bytes, the column of the piece's length, and the most that the ratio may be.
+const TARGETS: [(usize, usize, f64); 2] = [(40, 0, 2.0), (1_048_576, 2, 1.25)];
+
+struct Row {
+    key_len: usize,
+    len: usize,
+    function: Function,
+    ratios: [f64; 3],
+}
+
+/// The table of the time in pieces over that of the whole call, and whether the targets are met.
+pub fn describe() -> String {
+    let rows = rows();
     let pieces = PIECES.map(|len| format!("pieces of {}", grouped(len as u64)));
     let head = ["key", "bytes", "call"].map(String::from);
     let mut table = Table { head: [&head[..], &pieces].concat(), rows: vec![] };
+    for row in &rows {
+        let names = [row.key_len.to_string(), grouped(row.len as u64), format!("{:?}", row.function).to_lowercase()];
+        table.rows.push([&names[..], &row.ratios.map(rounded)].concat());
+    }
+    let targets = TARGETS.map(|(len, piece, most)| {
+        let largest = rows.iter().filter(|row| row.len == len).map(|row| row.ratios[piece]).fold(0.0, f64::max);
+        let (len, piece) = (grouped(len as u64), grouped(PIECES[piece] as u64));
+        let met = if largest <= most { "met" } else { "not met" };
+        format!("- {len} bytes in pieces of {piece}: at most {most:.2}; the largest is {largest:.2}, so it is {met}.")
+    });
+    format!("{table}\nTargets:\n\n{}", targets.join("\n"))
+}
+
+fn rows() -> Vec<Row> {
+    let mut rows = vec![];
     let mut random = Random(5297);
     for key_len in KEY_LENS {
         for len in LENS {
@@ -28,14 +54,12 @@ pub fn table() -> Table {
             let mut scratch = vec![0; Seal.scratch_need(len)];
             probe::whole(Seal, &Given { key: &key, header, input: &plain }, &mut sealed, &mut scratch);
             for (function, input, want) in [(Seal, &plain, &sealed), (Open, &sealed, &plain)] {
-                let given = Given { key: &key, header, input };
-                let ratios = ratios(function, &given, want).map(rounded);
-                let names = [key_len.to_string(), grouped(len as u64), format!("{function:?}").to_lowercase()];
-                table.rows.push([&names[..], &ratios].concat());
+                let ratios = ratios(function, &Given { key: &key, header, input }, want);
+                rows.push(Row { key_len, len, function, ratios });
             }
         }
     }
-    table
+    rows
 }
 
 /// The ratios for one call; all ways of it give the wanted bytes.
