@@ -4,9 +4,9 @@
 use crate::call::{Call, Kind};
 use crate::context::{Context, Peers};
 use crate::counter;
-use shared::probe::Answer;
 use shared::library::{LIMIT, TAG_LEN};
 use shared::mac::Block;
+use shared::probe::Answer;
 
 pub struct Book<'a> {
     peers: &'a Peers,

@@ -4,10 +4,10 @@
 use crate::aes::Cipher;
 use crate::call::{Call, Kind};
 use crate::counter;
-use shared::probe::Answer;
-use crate::state::{hold_len, Field, Field::*, State};
 use shared::library::{LIMIT, TAG_LEN};
+use crate::state::{hold_len, Field, Field::*, State};
 use shared::mac::{double, last_block, pad, subkey, xor, Block};
+use shared::probe::Answer;
 
 const WIDTHS: [u64; 3] = [16, 24, 32];
 
