@@ -29,7 +29,7 @@ pub const REASONS: [(&str, fn(&Case) -> bool); 6] = [
 ];
 
 /// The refusals in the order in which they are given, each with its condition.
-pub const REFUSALS: [(u64, fn(&Case) -> bool); 4] = [
+const REFUSALS: [(u64, fn(&Case) -> bool); 4] = [
     (9, |c| REASONS.iter().any(|(_, applies)| applies(c))),
     (4, |c| match c.call.kind {
         Kind::Add | Kind::Feed => c.total().saturating_add(c.piece_len()) > LIMIT as u64,
