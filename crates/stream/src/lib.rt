@@ -49,7 +49,7 @@ impl Stream {
     // The length of a tag.
     pub const TAG_LEN: usize = 16;
     // The longest plaintext.
-    pub const LIMIT: usize = 1048576;
+    pub const LIMIT: usize = siv::LIMIT;
 
     // A sealer's state from a key and a header list.
     pub fn begin_sealer(key: &[u8], header: &[u8], lens: &[u32]) -> Step
