@@ -25,7 +25,7 @@ use Rattle.siv.specs.declared.Refusal.{Refusal}
 use Rattle.siv.specs.declared.Refusal.the-variants.{KeyLength, HeaderCount, HeaderLengths, TooLong, SealedLength, OutputShort, ScratchShort, Forged, State, EmptyNonce}
 use Rattle.siv.specs.Answer.{Outcome, Row, row, pickNumber, first, numberOf, outcomeOf, verdict}
 use Rattle.siv.specs.Calls.{either, isKeyLength, limit, scratchNeed, headerRows, openRows, Did, sealNumber, sealCall, openNumber, openCall}
-use Rattle.siv.specs.Siv.{ctrKey, streamed, sealed, opened, genuine}
+use Rattle.siv.specs.Siv.{streamed, sealed, opened, genuine}
 use Rattle.siv.proofs.Answer.{the-type}
 
 -- ---- keys
@@ -203,7 +203,7 @@ put-over l a b h =
 
 pub length-opened : (key y : List ℕ) → length (opened key y) ≡ length y - 16
 unfolding opened streamed
-length-opened key y = length-xorStream (aes (ctrKey key)) (take 16 y) 0 (drop 16 y) ∙ length-drop 16 y
+length-opened key y = length-xorStream _ (take 16 y) 0 (drop 16 y) ∙ length-drop 16 y
 
 -- the plaintext, read off the front of the scratch that it was written to
 pub text-read : (key y scratch : List ℕ) {used : List ℕ} → used ≡ put scratch 0 (opened key y) → length y - 16 ≤ length scratch → take (length y - 16 - 0) used ≡ opened key y
