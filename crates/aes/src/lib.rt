@@ -4,9 +4,12 @@ mod schedule;
 mod word;
 
 ghost use mathlib.Core.Path.{_≡_};
+ghost use mathlib.Core.Bool.{true};
 ghost use Prim.Native.Nat.{_≤_};
+ghost use lib.ListN.{length};
 ghost use Rattle.aes.specs.Aes.{isWidth, expansion};
 ghost use Rattle.aes.specs.Cipher.{cipher};
+ghost use Rattle.aes.specs.KeyExpansion.{roundKeys};
 ghost use Rattle.aes.specs.Tables.{Ready};
 use octets::Block;
 
@@ -85,4 +88,14 @@ pub fn expand(engine: &Engine, key: &[u8]) -> Expansion
         answer: KeyAnswer::Refused,
         keys: [0u8; 240],
     }
+}
+
+// The round keys of a key of 16, 24 or 32 bytes.
+pub fn round_keys(engine: &Engine, key: &[u8]) -> RoundKeys
+    requires { ⌜ Ready (now engine) × (isWidth (length (now key)) ≡ true) ⌝ }
+    ensures { λ r. ⌜ r ≡ roundKeys (now (key .entry)) ⌝ }
+{
+    let e = expand(engine, key);
+    let keys = e.keys;
+    keys
 }

@@ -14,7 +14,7 @@ use denote.Enum.Declared.{tagOf}
 use Rattle.octets.specs.Octets.{both, put}
 use Rattle.octets.proofs.Strings.{take-put}
 use Rattle.octets.proofs.Tests.{both-left, both-right}
-use Rattle.aes.specs.Aes.{isWidth, aes, expansion}
+use Rattle.aes.specs.Aes.{isWidth, aes}
 use Rattle.aes.specs.Cipher.{cipher}
 use Rattle.aes.specs.KeyExpansion.{roundKeys}
 use Rattle.header.specs.Header.{total, strings}
@@ -121,10 +121,6 @@ pub next-due : (a : Answer) (rows rest : List Row) → lacks 0 rows ≡ true →
 next-due a rows rest l k e = ap verdict (sym (first-pass rows rest l (passed a (first rows) k e)))
 
 -- ---- keys under the cipher
-
-pub expanded : (key : List ℕ) → isWidth (length key) ≡ true → expansion key .keys ≡ roundKeys key
-unfolding expansion
-expanded key h = simp h
 
 -- AES under a key is the cipher at its width under its round keys
 pub aes-cipher : {width : ℕ} {keys : List ℕ} (key : List ℕ) → width ≡ length key → keys ≡ roundKeys key → cipher width keys ≡ aes key

@@ -1,6 +1,6 @@
 // Whole sealing and opening, AES-SIV as RFC 5297 has it, with document 01's answers.
 pub mod judge;
-pub mod work;
+mod work;
 
 ghost use mathlib.Core.Path.{_≡_};
 ghost use Rattle.siv.specs.Calls.{isKeyLength, Did, sealCall, openCall};

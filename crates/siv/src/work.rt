@@ -4,9 +4,7 @@ ghost use mathlib.Core.Bool.{true};
 ghost use Prim.Native.Nat.{_+_, _≤_};
 ghost use lib.ListN.{length};
 ghost use Rattle.octets.specs.Octets.{put};
-ghost use Rattle.aes.specs.Aes.{isWidth};
 ghost use Rattle.aes.specs.Cipher.{cipher};
-ghost use Rattle.aes.specs.KeyExpansion.{roundKeys};
 ghost use Rattle.aes.specs.Tables.{Ready};
 ghost use Rattle.header.specs.Header.{total, strings};
 ghost use Rattle.s2v.specs.S2v.{s2v};
@@ -15,16 +13,6 @@ ghost use Rattle.siv.specs.Siv.{tagOf, streamed, sealed, opened, genuine
 use aes::Engine;
 use aes::RoundKeys;
 use octets::Block;
-
-// The round keys of one half of a key.
-pub fn half_keys(engine: &Engine, half: &[u8]) -> RoundKeys
-    requires { ⌜ Ready (now engine) × (isWidth (length (now half)) ≡ true) ⌝ }
-    ensures { λ r. ⌜ r ≡ roundKeys (now (half .entry)) ⌝ }
-{
-    let e = aes::expand(engine, half);
-    let keys = e.keys;
-    keys
-}
 
 // S2V under round keys.
 fn tag_under(
@@ -49,7 +37,7 @@ fn make_tag(engine: &Engine, key: &[u8], header: &[u8], lens: &[u32], p: &[u8]) 
     ensures { λ r. ⌜ r ≡ tagOf (now (key .entry)) (strings (now (header .entry)) (now (lens .entry))) (now (p .entry)) ⌝ }
 {
     let width = key.len() / 2;
-    let keys = half_keys(engine, &key[0..width]);
+    let keys = aes::round_keys(engine, &key[0..width]);
     tag_under(engine, width, &keys, header, lens, p)
 }
 
@@ -59,7 +47,7 @@ fn stream(engine: &Engine, key: &[u8], v: Block, src: &[u8], dst: &mut [u8], at:
     ensures { λ _. ⌜ now (dst .exit) ≡ put (now (dst .entry)) at (streamed (now (key .entry)) v (now (src .entry))) ⌝ }
 {
     let width = key.len() / 2;
-    let keys = half_keys(engine, &key[width..]);
+    let keys = aes::round_keys(engine, &key[width..]);
     ctr::xor_stream(engine, width, &keys, v, 0, src, dst, at);
 }
 

@@ -125,10 +125,8 @@ streamedAt s place piece = xorStream (cipher (s .width) (s .«ctr_keys»)) (s .v
 -- write a piece: its ciphertext goes to the front of the output
 unfoldable pub writeStep : Stream → List ℕ → List ℕ → Result
 writeStep s piece output =
-    settle (first (writeRows s (length piece) (length output)))
-    (success (length piece) (wrote s (length piece)) (put output 0 (streamedAt s (s .written) piece)))
-    s
-    output
+    let c = streamedAt s (s .written) piece in
+    settle (first (writeRows s (length piece) (length output))) (success (length piece) (wrote s (length piece)) (put output 0 c)) s output
 
 abbrev pub closeRows : Stream → List Row
 closeRows s = row 9 (not (both (fits 2 s) (not (ltb (s .written) (s .total))))) ∷ []

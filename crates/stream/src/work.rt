@@ -37,8 +37,8 @@ pub(crate) fn start(key: &[u8], header: &[u8], lens: &[u32], stage: u8, v: Block
 {
     let engine = aes::engine();
     let width = key.len() / 2;
-    let mac_keys = siv::work::half_keys(&engine, &key[0..width]);
-    let ctr_keys = siv::work::half_keys(&engine, &key[width..]);
+    let mac_keys = aes::round_keys(&engine, &key[0..width]);
+    let ctr_keys = aes::round_keys(&engine, &key[width..]);
     let l = cmac::zero_cipher(&engine, width, &mac_keys);
     let d = s2v::make_header_result(
         &engine,

@@ -17,17 +17,17 @@ use Rattle.siv.proofs.Laws.{KeyHalves, halves, aes-cipher}
 use Rattle.siv.proofs.work.make_tag.Statement.{statement}
 use Rattle.siv.proofs.work.make_tag.Tie as tie
 
-sub-half-keys : tie.Need-sub-half-keys
-sub-half-keys c = search needs
+sub-round-keys : tie.Need-sub-round-keys
+sub-round-keys c = search needs
 
-part-half-keys-start : tie.Need-part-half-keys-start
-part-half-keys-start c = search needs
+part-round-keys-start : tie.Need-part-round-keys-start
+part-round-keys-start c = search needs
 
-part-half-keys-end : tie.Need-part-half-keys-end
-part-half-keys-end c = search needs
+part-round-keys-end : tie.Need-part-round-keys-end
+part-round-keys-end c = search needs
 
-half-keys-requires : tie.Need-half-keys-requires
-half-keys-requires c κs =
+round-keys-requires : tie.Need-round-keys-requires
+round-keys-requires c κs =
     let start = c .before .before .before .before .before in
     let key = start .args .key .now in
     let h : KeyHalves (length key) = halves _ (start .pre .1) in
@@ -48,16 +48,16 @@ returns c =
     let ss = strings (start .args .header .now) (start .args .lens .now) in
     let h : KeyHalves (length key) = halves _ (start .pre .1) in
     let long : length key / 2 ≡ length (macKey key) = sym (length-take-le _ key (omega arith)) in
-    let keys = c .before .before .half-keys .ensures ∙ ap (λ (n : ℕ). roundKeys (take n key)) (sub-zero (length key / 2)) in
+    let keys = c .before .before .round-keys .ensures ∙ ap (λ (n : ℕ). roundKeys (take n key)) (sub-zero (length key / 2)) in
     c .tag-under .ensures ∙ ap (λ (E : List ℕ → List ℕ). s2v E ss (start .args .p .now)) (aes-cipher (macKey key) long keys)
 
 pub make-tag-spec : {M : Type 1} → statement M
 make-tag-spec =
     tie.close
     (tie.spec
-    sub-half-keys
-    part-half-keys-start
-    part-half-keys-end
-    half-keys-requires
+    sub-round-keys
+    part-round-keys-start
+    part-round-keys-end
+    round-keys-requires
     tag-under-requires
     returns)

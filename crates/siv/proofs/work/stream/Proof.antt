@@ -16,17 +16,17 @@ use Rattle.siv.proofs.Laws.{KeyHalves, halves, aes-cipher}
 use Rattle.siv.proofs.work.stream.Statement.{statement}
 use Rattle.siv.proofs.work.stream.Tie as tie
 
-sub-half-keys : tie.Need-sub-half-keys
-sub-half-keys c = search needs
+sub-round-keys : tie.Need-sub-round-keys
+sub-round-keys c = search needs
 
-part-half-keys-start : tie.Need-part-half-keys-start
-part-half-keys-start c = search needs
+part-round-keys-start : tie.Need-part-round-keys-start
+part-round-keys-start c = search needs
 
-part-half-keys-end : tie.Need-part-half-keys-end
-part-half-keys-end c = search needs
+part-round-keys-end : tie.Need-part-round-keys-end
+part-round-keys-end c = search needs
 
-half-keys-requires : tie.Need-half-keys-requires
-half-keys-requires c κs =
+round-keys-requires : tie.Need-round-keys-requires
+round-keys-requires c κs =
     let start = c .before .before .before .before in
     let key = start .args .key .now in
     let h : KeyHalves (length key) = halves _ (start .pre .1) in
@@ -50,7 +50,7 @@ returns c =
     let key = args .key .now in
     let h : KeyHalves (length key) = halves _ (start .pre .1) in
     let long : length key / 2 ≡ length (ctrKey key) = simp length-drop (omega arith) in
-    let keys = c .before .before .before .before .before .half-keys .ensures ∙ ap roundKeys (part-rest key (length key / 2)) in
+    let keys = c .before .before .before .before .before .round-keys .ensures ∙ ap roundKeys (part-rest key (length key / 2)) in
     c .before .before .xor-stream .ensures
     ∙ ap (λ (E : List ℕ → List ℕ). put (args .dst .now) (args .at) (xorStream E (args .v) 0 (args .src .now))) (aes-cipher (ctrKey key) long keys)
 
@@ -58,10 +58,10 @@ pub stream-spec : {M : Type 1} → statement M
 stream-spec =
     tie.close
     (tie.spec
-    sub-half-keys
-    part-half-keys-start
-    part-half-keys-end
-    half-keys-requires
+    sub-round-keys
+    part-round-keys-start
+    part-round-keys-end
+    round-keys-requires
     xor-stream-requires
     same-length
     returns)

@@ -17,33 +17,33 @@ use Rattle.stream.proofs.work.start.Tie as tie
 engine-requires : tie.Need-engine-requires
 engine-requires c κs = search needs
 
-sub-half-keys : tie.Need-sub-half-keys
-sub-half-keys c = search needs
+sub-round-keys : tie.Need-sub-round-keys
+sub-round-keys c = search needs
 
-part-half-keys-start : tie.Need-part-half-keys-start
-part-half-keys-start c = search needs
+part-round-keys-start : tie.Need-part-round-keys-start
+part-round-keys-start c = search needs
 
-part-half-keys-end : tie.Need-part-half-keys-end
-part-half-keys-end c = search needs
+part-round-keys-end : tie.Need-part-round-keys-end
+part-round-keys-end c = search needs
 
-half-keys-requires : tie.Need-half-keys-requires
-half-keys-requires c κs =
+round-keys-requires : tie.Need-round-keys-requires
+round-keys-requires c κs =
     let key = c .before .before .before .before .before .before .args .key .now in
     let h : KeyHalves (length key) = halves _ (c .before .before .before .before .before .before .pre .0) in
     let long : length (take (length key / 2 - 0) key) ≡ length key / 2 = simp length-take (omega arith) in
     (search needs, ap isWidth long ∙ h .half)
 
-sub-half-keys-2 : tie.Need-sub-half-keys-2
-sub-half-keys-2 c = search needs
+sub-round-keys-2 : tie.Need-sub-round-keys-2
+sub-round-keys-2 c = search needs
 
-part-half-keys-start-2 : tie.Need-part-half-keys-start-2
-part-half-keys-start-2 c = search needs
+part-round-keys-start-2 : tie.Need-part-round-keys-start-2
+part-round-keys-start-2 c = search needs
 
-part-half-keys-end-2 : tie.Need-part-half-keys-end-2
-part-half-keys-end-2 c = search needs
+part-round-keys-end-2 : tie.Need-part-round-keys-end-2
+part-round-keys-end-2 c = search needs
 
-half-keys-requires-2 : tie.Need-half-keys-requires-2
-half-keys-requires-2 c κs =
+round-keys-requires-2 : tie.Need-round-keys-requires-2
+round-keys-requires-2 c κs =
     let key = c .before .before .before .before .before .before .before .before .before .args .key .now in
     let h : KeyHalves (length key) = halves _ (c .before .before .before .before .before .before .before .before .before .pre .0) in
     let long : length (drop (length key / 2) key) ≡ length key / 2 = simp length-drop (omega arith) in
@@ -62,7 +62,7 @@ returns : tie.Need-returns
 returns c =
     let key = c .before .before .before .before .before .before .before .before .before .before .before .before .before .before .before .before .before .args .key .now in
     let front : length key / 2 - 0 ≡ length key / 2 = omega arith in
-    started key _ _ _ (c .before .before .before .before .before .before .before .before .before .before .half-keys .ensures ∙ ap (λ (n : ℕ). roundKeys (take n key)) front) (c .before .before .before .before .before .before .before .half-keys2 .ensures ∙ ap roundKeys (part-rest key (length key / 2)))
+    started key _ _ _ (c .before .before .before .before .before .before .before .before .before .before .round-keys .ensures ∙ ap (λ (n : ℕ). roundKeys (take n key)) front) (c .before .before .before .before .before .before .before .round-keys2 .ensures ∙ ap roundKeys (part-rest key (length key / 2)))
     (c .before .before .before .before .zero-cipher .ensures) (c .before .make-subkeys .ensures) (c .make-header-result .ensures)
 
 pub start-spec : {M : Type 1} → statement M
@@ -70,14 +70,14 @@ start-spec =
     tie.close
     (tie.spec
     engine-requires
-    sub-half-keys
-    part-half-keys-start
-    part-half-keys-end
-    half-keys-requires
-    sub-half-keys-2
-    part-half-keys-start-2
-    part-half-keys-end-2
-    half-keys-requires-2
+    sub-round-keys
+    part-round-keys-start
+    part-round-keys-end
+    round-keys-requires
+    sub-round-keys-2
+    part-round-keys-start-2
+    part-round-keys-end-2
+    round-keys-requires-2
     zero-cipher-requires
     make-subkeys-requires
     make-header-result-requires
