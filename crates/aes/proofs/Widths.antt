@@ -1,7 +1,7 @@
 -- The three key widths, and the length of a block that the cipher gives.
 -- Assumes nothing.
 use mathlib.Core.Path.{_≡_, refl}
-use mathlib.Core.Bool.{Bool, true, false, false≢true}
+use mathlib.Core.Bool.{Bool, true, false, _||_}
 use mathlib.Core.List.{List}
 use Prim.Native.Nat.{ℕ, _*_, _/_, _≤_}
 use native.Mathlib.Omega.{arith}
@@ -9,7 +9,7 @@ use lib.Dec.{eqb}
 use lib.ListN.{length}
 use borrow.Author.Tests.{eqb-true}
 use Rattle.aes.specs.Cipher.{cipher}
-use Rattle.aes.specs.Aes.{either, isWidth}
+use Rattle.aes.specs.Aes.{isWidth}
 
 -- what holds of all three widths
 pub record Width (n : ℕ) : Type 0 where
@@ -21,7 +21,7 @@ pub width : (n : ℕ) → isWidth n ≡ true → Width n
 unfolding isWidth
 width n e = go (eqb n 16) (eqb n 24) (eqb-true n 16) (eqb-true n 24) (eqb-true n 32) e
   where
-    go : (a b : Bool) → (a ≡ true → n ≡ 16) → (b ≡ true → n ≡ 24) → (eqb n 32 ≡ true → n ≡ 32) → either a (either b (eqb n 32)) ≡ true → Width n
+    go : (a b : Bool) → (a ≡ true → n ≡ 16) → (b ≡ true → n ≡ 24) → (eqb n 32 ≡ true → n ≡ 32) → (a || b || eqb n 32) ≡ true → Width n
     go true b f g h t = let p : n ≡ 16 = f refl in omega arith
     go false true f g h t = let p : n ≡ 24 = g refl in omega arith
     go false false f g h t = let p : n ≡ 32 = h t in omega arith

@@ -1,17 +1,12 @@
 -- FIPS 197, section 5.2: the key expansion, by words over Nk.
 -- Assumes nothing.
-use mathlib.Core.Bool.{Bool, true, false}
+use mathlib.Core.Bool.{cond, _&&_}
 use mathlib.Core.List.{List, [], _∷_, _++_, map}
 use Prim.Native.Nat.{ℕ, zero, suc, _+_, _-_, _*_, _/_, _%_}
 use lib.Dec.{ltb, eqb}
 use lib.ListN.{getD, length, replicate}
-use Rattle.octets.specs.Octets.{xors, put, both}
+use Rattle.octets.specs.Octets.{xors, put}
 use Rattle.field.specs.Field.{power, sbox}
-
--- the first string where the test passes, else the second
-abbrev pub pickString : Bool → List ℕ → List ℕ → List ℕ
-pickString true a b = a
-pickString false a b = b
 
 -- word i of a string
 abbrev pub word : List ℕ → ℕ → List ℕ
@@ -32,8 +27,8 @@ rcon j = power 2 (j - 1) ∷ 0 ∷ 0 ∷ 0 ∷ []
 -- 5.2, algorithm 2: what word i of the key schedule adds to word i - Nk, made from the word before it
 unfoldable pub temp : ℕ → ℕ → List ℕ → List ℕ
 temp Nk i before =
-    pickString (eqb (i % Nk) 0) (xors (subWord (rotWord before)) (rcon (i / Nk)))
-    (pickString (both (ltb 6 Nk) (eqb (i % Nk) 4)) (subWord before) before)
+    cond (eqb (i % Nk) 0) (xors (subWord (rotWord before)) (rcon (i / Nk)))
+    (cond (ltb 6 Nk && eqb (i % Nk) 4) (subWord before) before)
 
 -- 5.2, algorithm 2: word i of the key schedule, from the words before it
 unfoldable pub nextWord : ℕ → ℕ → List ℕ → List ℕ

@@ -1,7 +1,6 @@
 // A column of the state, or a word of the key schedule, as a number: row 0 in the lowest byte.
 ghost use mathlib.Core.Path.{_≡_};
 ghost use Prim.Native.Nat.{_/_, _%_};
-ghost use lib.Bits.{bitXor};
 ghost use Rattle.field.specs.Field.{mul, sbox};
 ghost use Rattle.aes.specs.State.{bytesOfWord, WordIs, Mixed};
 ghost use Rattle.aes.specs.Tables.{Ready};

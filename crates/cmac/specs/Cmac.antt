@@ -1,17 +1,12 @@
 -- CMAC with a 16-byte tag, SP 800-38B, over any block function E.
 -- Assumes nothing.
-use mathlib.Core.Bool.{Bool, true, false}
+use mathlib.Core.Bool.{cond}
 use mathlib.Core.List.{List, [], _∷_, _++_}
 use Prim.Native.Nat.{ℕ, zero, suc, _+_, _-_, _*_, _/_, _%_}
 use lib.Dec.{ltb, eqb}
 use lib.ListN.{length, getD, drop, replicate}
 use Rattle.octets.specs.Octets.{xors, part}
 use Rattle.cmac.specs.declared.Subkeys.{Subkeys}
-
--- the first string where the test passes, else the second
-abbrev pub pickString : Bool → List ℕ → List ℕ → List ℕ
-pickString true a b = a
-pickString false a b = b
 
 -- 16 zeros
 abbrev pub zeros : List ℕ
@@ -29,7 +24,7 @@ remainder = replicate 15 0 ++ (0x87 ∷ [])
 
 -- 6.1, and RFC 5297 2.3, dbl: a block doubled
 unfoldable pub double : List ℕ → List ℕ
-double b = pickString (ltb (getD b 0 0) 128) (shifted b) (xors (shifted b) remainder)
+double b = cond (ltb (getD b 0 0) 128) (shifted b) (xors (shifted b) remainder)
 
 -- 6.1, subkey generation: K1 is L doubled, K2 is K1 doubled
 unfoldable pub subkeys : List ℕ → Subkeys
@@ -41,7 +36,7 @@ pad s = s ++ (0x80 ∷ replicate (15 - length s) 0)
 
 -- 6.2, step 4: the last block, whole or short, as it enters the chain
 unfoldable pub lastBlock : Subkeys → List ℕ → List ℕ
-lastBlock k s = pickString (eqb (length s) 16) (xors s (k .k1)) (xors (pad s) (k .k2))
+lastBlock k s = cond (eqb (length s) 16) (xors s (k .k1)) (xors (pad s) (k .k2))
 
 -- how many blocks stand before the last one; an empty string has one block
 abbrev pub blocksBefore : ℕ → ℕ

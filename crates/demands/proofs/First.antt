@@ -1,26 +1,26 @@
 -- The first demand holds.
 -- Assumes nothing.
 use mathlib.Core.Path.{_≡_, refl, ap, ap₂, sym, subst, _∙_}
-use mathlib.Core.Bool.{Bool, true, false, not}
+use mathlib.Core.Bool.{Bool, true, false, not, cond, _&&_}
 use mathlib.Core.List.{List, [], _∷_}
 use Prim.Native.Nat.{ℕ, pred}
 use native.Mathlib.Omega.{arith}
 use lib.Dec.{eqb}
 use lib.ListN.{length, getD, replicate}
 use borrow.Author.Tests.{eqb-true, eq-eqb, ne-eqb}
-use Rattle.octets.specs.Octets.{put, both}
+use Rattle.octets.specs.Octets.{put}
 use Rattle.siv.specs.declared.Answer.{Answer}
 use Rattle.siv.specs.declared.Answer.the-variants.{Done, Refused}
 use Rattle.siv.specs.declared.Refusal.{Refusal}
 use Rattle.siv.specs.declared.Refusal.the-variants.{KeyLength, HeaderCount, HeaderLengths, TooLong, SealedLength, OutputShort, ScratchShort, Forged, State, EmptyNonce}
-use Rattle.siv.specs.Answer.{Outcome, Row, row, pickNumber, first, verdict, numberOf, outcomeOf}
+use Rattle.siv.specs.Answer.{Outcome, Row, row, first, verdict, numberOf, outcomeOf}
 use Rattle.siv.specs.Calls.{Result, isKeyLength, sealNumber, sealCall, openNumber, openCall}
 use Rattle.siv.proofs.Laws.{lacks, first-not, refusal-number}
 use Rattle.stream.specs.declared.Stream.{Stream}
 use Rattle.stream.specs.State.{ended}
 use Rattle.stream.specs.Steps as steps
 use Rattle.stream.specs.Steps.{beginSealer, beginOpener, addStep, turnStep, writeStep, closeStep, feedStep, finishStep}
-use Rattle.kinphlor.specs.Door.{pickResult, emptyNonce, door}
+use Rattle.kinphlor.specs.Door.{emptyNonce, door}
 use Rattle.demands.specs.First.{order, keeps, FirstDue, none, here, later, sealTable, openTable, FirstSeal, FirstOpen, atDoor, FirstDoor, FirstStep, finishTable, FirstFinish, First}
 
 -- `first` takes the first row that is due
@@ -28,7 +28,7 @@ first-due : (rs : List Row) → FirstDue rs (first rs)
 first-due [] = none
 first-due (r ∷ rs) = go (r .due) refl (first-due rs)
   where
-    go : (d : Bool) → r .due ≡ d → FirstDue rs (first rs) → FirstDue (r ∷ rs) (pickNumber d (r .number) (first rs))
+    go : (d : Bool) → r .due ≡ d → FirstDue rs (first rs) → FirstDue (r ∷ rs) (cond d (r .number) (first rs))
     go true e f = here e
     go false e f = later e f
 
@@ -83,9 +83,9 @@ module _ (rest : List Row) (nonce : ℕ) (key output scratch : List ℕ) (call :
       ten : Result
       ten = record { outcome = verdict 10; output = output; scratch = scratch }
 
-      by-call : (n : ℕ) → both (isKeyLength (length key)) (eqb nonce 0) ≡ false → first table ≡ n → FirstDue (atDoor nonce table) n → FirstDoor table nonce key output scratch call
+      by-call : (n : ℕ) → (isKeyLength (length key) && eqb nonce 0) ≡ false → first table ≡ n → FirstDue (atDoor nonce table) n → FirstDoor table nonce key output scratch call
       by-call n off number due =
-          let same : door nonce key output scratch call ≡ call = ap (λ (t : Bool). pickResult t ten call) off in
+          let same : door nonce key output scratch call ≡ call = ap (λ (t : Bool). cond t ten call) off in
           let same-number : door nonce key output scratch call .outcome .number ≡ call .outcome .number = ap (λ (r : Result). r .outcome .number) same in
           record {
             ordered = k;
@@ -96,9 +96,9 @@ module _ (rest : List Row) (nonce : ℕ) (key output scratch : List ℕ) (call :
 
       go : (a : Bool) → isKeyLength (length key) ≡ a → (b : Bool) → eqb nonce 0 ≡ b → FirstDoor table nonce key output scratch call
       go false a b z =
-          by-call 1 (ap (λ (t : Bool). both t (eqb nonce 0)) a) (ap (λ (t : Bool). pickNumber (not t) 1 (first rest)) a) (here (ap not a))
+          by-call 1 (ap (λ (t : Bool). t && eqb nonce 0) a) (ap (λ (t : Bool). cond (not t) 1 (first rest)) a) (here (ap not a))
       go true a true z =
-          let same : door nonce key output scratch call ≡ ten = ap (λ (t : Bool). pickResult t ten call) (ap₂ both a z) in
+          let same : door nonce key output scratch call ≡ ten = ap (λ (t : Bool). cond t ten call) (ap₂ _&&_ a z) in
           let same-number : door nonce key output scratch call .outcome .number ≡ 10 = ap (λ (r : Result). r .outcome .number) same in
           record {
             ordered = k;
@@ -107,7 +107,7 @@ module _ (rest : List Row) (nonce : ℕ) (key output scratch : List ℕ) (call :
             otherwise = λ n. absurd (n same-number);
           }
       go true a false z =
-          by-call (first rest) (ap₂ both a z) (ap (λ (t : Bool). pickNumber (not t) 1 (first rest)) a) (later (ap not a) (later z (first-due rest)))
+          by-call (first rest) (ap₂ _&&_ a z) (ap (λ (t : Bool). cond (not t) 1 (first rest)) a) (later (ap not a) (later z (first-due rest)))
 
 -- ---- piecewise calls
 
@@ -115,16 +115,16 @@ module _ (n : ℕ) (done : steps.Result) (s : Stream) (output : List ℕ) (z : d
   settled-number : steps.settle n done s output .outcome .number ≡ n
   settled-number = go (eqb n 0) refl
     where
-      go : (t : Bool) → eqb n 0 ≡ t → steps.pickResult t done (steps.refusal n s output) .outcome .number ≡ n
+      go : (t : Bool) → eqb n 0 ≡ t → cond t done (steps.refusal n s output) .outcome .number ≡ n
       go true e = z ∙ sym (eqb-true n 0 e)
       go false e = refl
 
   settled-done : n ≡ 0 → steps.settle n done s output ≡ done
-  settled-done e = ap (λ (t : Bool). steps.pickResult t done (steps.refusal n s output)) (eq-eqb n 0 e)
+  settled-done e = ap (λ (t : Bool). cond t done (steps.refusal n s output)) (eq-eqb n 0 e)
 
   settled-refused : (m : ℕ) → n ≡ m → (m ≡ 0 → ⊥) → steps.settle n done s output ≡ steps.refusal m s output
   settled-refused m e k =
-      ap (λ (t : Bool). steps.pickResult t done (steps.refusal n s output)) (ne-eqb n 0 (λ p. k (sym e ∙ p))) ∙ ap (λ (k : ℕ). steps.refusal k s output) e
+      ap (λ (t : Bool). cond t done (steps.refusal n s output)) (ne-eqb n 0 (λ p. k (sym e ∙ p))) ∙ ap (λ (k : ℕ). steps.refusal k s output) e
 
 -- a call whose table gives its number
 by-table : (table : List Row) (done : steps.Result) (s : Stream) (output : List ℕ) → keeps order table ≡ true → done .outcome .number ≡ 0
@@ -149,17 +149,17 @@ finishing s output =
       first = subst (FirstDue (finishTable s output)) (sym number) (first-due (finishTable s output));
       done = λ e.
           let zero : n ≡ 0 = sym number ∙ e in
-          ap (λ (t : Bool). steps.pickResult t (forged s output) (steps.settle n done s output)) (ne-eqb n 8 (λ p. omega (arith, p, zero))) ∙ settled-done n done s output refl zero;
-      forged = λ e. ap (λ (t : Bool). steps.pickResult t (forged s output) (steps.settle n done s output)) (eq-eqb n 8 (sym number ∙ e));
+          ap (λ (t : Bool). cond t (forged s output) (steps.settle n done s output)) (ne-eqb n 8 (λ p. omega (arith, p, zero))) ∙ settled-done n done s output refl zero;
+      forged = λ e. ap (λ (t : Bool). cond t (forged s output) (steps.settle n done s output)) (eq-eqb n 8 (sym number ∙ e));
       refused = λ m e k k8.
-          ap (λ (t : Bool). steps.pickResult t (forged s output) (steps.settle n done s output)) (ne-eqb n 8 (λ p. k8 (sym e ∙ number ∙ p))) ∙ settled-refused n done s output refl m (sym number ∙ e) k;
+          ap (λ (t : Bool). cond t (forged s output) (steps.settle n done s output)) (ne-eqb n 8 (λ p. k8 (sym e ∙ number ∙ p))) ∙ settled-refused n done s output refl m (sym number ∙ e) k;
     }
   where
     forged : Stream → List ℕ → steps.Result
     forged s output = steps.refusal 8 ended (put output 0 (replicate (s .total) 0))
 
     go : (t : Bool) → eqb (first (finishTable s output)) 8 ≡ t
-        → steps.pickResult t (forged s output) (steps.settle (first (finishTable s output)) (steps.success (s .total) ended output) s output) .outcome .number ≡ first (finishTable s output)
+        → cond t (forged s output) (steps.settle (first (finishTable s output)) (steps.success (s .total) ended output) s output) .outcome .number ≡ first (finishTable s output)
     go true e = sym (eqb-true (first (finishTable s output)) 8 e)
     go false e = settled-number (first (finishTable s output)) (steps.success (s .total) ended output) s output refl
 

@@ -17,7 +17,7 @@ use Rattle.aes.proofs.Widths.{length-cipher}
 use Rattle.cmac.specs.declared.Subkeys.{Subkeys}
 use Rattle.cmac.specs.Cmac.{zeros, chain, subkeys, zeroCipher}
 use Rattle.cmac.proofs.Laws.{chain-front, chain-add}
-use Rattle.s2v.specs.S2v.{tailLength, headerResult, tagFrom, tag, s2v}
+use Rattle.s2v.specs.S2v.{tailLength, headerResult, tagFrom, s2v}
 use Rattle.s2v.proofs.Laws.{Tail, tail, tag-tail}
 use Rattle.ctr.specs.Counter.{xorStream}
 use Rattle.ctr.proofs.Laws.{xorStream-append}

@@ -1,9 +1,9 @@
 -- One call on a state that the model knows: it gives what the model says, and the state after it is again one that the model knows.
 -- Assumes nothing.
 use mathlib.Core.Path.{_≡_, refl, ap, ap₂, sym, subst, _∙_}
-use mathlib.Core.Bool.{Bool, true, false, not}
+use mathlib.Core.Bool.{Bool, true, false, not, cond}
 use mathlib.Core.List.{List, [], _++_}
-use Prim.Native.Nat.{ℕ, _+_, _-_, _≤_}
+use Prim.Native.Nat.{ℕ, _+_, _≤_}
 use native.Mathlib.Omega.{arith}
 use lib.Dec.{eqb, ltb}
 use lib.ListN.{length, take, drop, replicate, length-append, length-replicate}
@@ -12,10 +12,10 @@ use borrow.Author.Tests.{ltb-false, le-ltb}
 use Rattle.octets.specs.Octets.{put, same}
 use Rattle.octets.proofs.Strings.{length-put, put-put}
 use Rattle.aes.specs.Aes.{aes}
-use Rattle.cmac.specs.Cmac.{zeros, pickString}
+use Rattle.cmac.specs.Cmac.{zeros}
 use Rattle.header.specs.Header.{strings}
 use Rattle.ctr.specs.Counter.{xorStream}
-use Rattle.siv.specs.Answer.{pickNumber, first, verdict}
+use Rattle.siv.specs.Answer.{first, verdict}
 use Rattle.siv.specs.Calls.{limit, scratchNeed}
 use Rattle.siv.specs.Siv.{ctrKey, tagOf, streamed, opened, genuine}
 use Rattle.siv.proofs.Laws.{put-over}
@@ -114,7 +114,7 @@ module _ (key bytes lens shared : List ℕ) (a : Admits key bytes lens) where
         book = bookAfter key bytes lens begin shared b c;
         entry =
             record {
-              outcome = record { number = n; count = pickNumber (eqb n 0) (countAfter key bytes lens begin shared b c) 0 };
+              outcome = record { number = n; count = cond (eqb n 0) (countAfter key bytes lens begin shared b c) 0 };
               output = outputAfter key bytes lens begin shared b c;
             };
       }
@@ -288,12 +288,12 @@ module _ (key bytes lens shared : List ℕ) (a : Admits key bytes lens) where
             ∙ put-put shared 0 P (streamedAt SF (length P) piece) (omega (arith, long))
             ∙ ap (put shared 0) joined
 
-        number : first (feedRows SF (length piece) (length o)) ≡ pickNumber (ltb limit (length A + length piece)) 4 (pickNumber (ltb (length shared) (length A + length piece)) 6 0)
+        number : first (feedRows SF (length piece) (length o)) ≡ cond (ltb limit (length A + length piece)) 4 (cond (ltb (length shared) (length A + length piece)) 6 0)
         number =
-            ap (λ (t : Bool). pickNumber (not t) 9 (pickNumber (ltb limit (length P + length piece)) 4 (pickNumber (ltb (length o) (length P + length piece)) 6 0))) fittingF
-            ∙ ap₂ (λ (n m : ℕ). pickNumber (ltb limit (n + length piece)) 4 (pickNumber (ltb m (n + length piece)) 6 0)) long longer
+            ap (λ (t : Bool). cond (not t) 9 (cond (ltb limit (length P + length piece)) 4 (cond (ltb (length o) (length P + length piece)) 6 0))) fittingF
+            ∙ ap₂ (λ (n m : ℕ). cond (ltb limit (n + length piece)) 4 (cond (ltb m (n + length piece)) 6 0)) long longer
 
-        settled : (n : ℕ) → pickNumber (ltb limit (length A + length piece)) 4 (pickNumber (ltb (length shared) (length A + length piece)) 6 0) ≡ n
+        settled : (n : ℕ) → cond (ltb limit (length A + length piece)) 4 (cond (ltb (length shared) (length A + length piece)) 6 0) ≡ n
             → call SF o (feed piece) ≡ settle n (success (length piece) (stateOf key ss 3 T 0 (streamed key T (A ++ piece))) (put shared 0 (streamed key T (A ++ piece)))) SF o
         settled n e =
             ap₂ (λ (k : ℕ) (r : Result). settle k r SF o) (number ∙ e) (ap₂ (λ (s : Stream) (x : List ℕ). success (length piece) s x) state last)
@@ -342,7 +342,7 @@ module _ (key bytes lens shared : List ℕ) (a : Admits key bytes lens) where
         (omega (arith, count))) in
         ap (λ (n : ℕ). eqb n 0) number ∙ go (genuine key (strings bytes lens) (T ++ A))
       where
-        go : (t : Bool) → eqb (pickNumber (not t) 8 0) 0 ≡ t
+        go : (t : Bool) → eqb (cond (not t) 8 0) 0 ≡ t
         go true = refl
         go false = refl
 
@@ -363,13 +363,13 @@ module _ (key bytes lens shared : List ℕ) (a : Admits key bytes lens) where
             → Steps (opener T) (book 3 A []) (stateOf key (strings bytes lens) 3 T 0 (streamed key T A)) (put shared 0 (streamed key T A)) finish
         go true g h =
             let last : o ≡ shown key bytes lens (opener T) shared (book 0 A []) =
-            ap (put shared 0) (sym (ap (λ (t : Bool). pickString t (opened key (T ++ A)) (replicate (length A) 0)) h ∙ opened-fed)) in
+            ap (put shared 0) (sym (ap (λ (t : Bool). cond t (opened key (T ++ A)) (replicate (length A) 0)) h ∙ opened-fed)) in
             steps (opener T) bF SF o finish (success (length P) ended o) (doneAfter (opener T) bF finish 0) (simp (fittingF, enough, g)) (simp h)
             (ap₂ (λ (n : ℕ) (x : List ℕ). record { outcome = record { number = 0; count = n }; output = x }) long last)
             (finished T A o last)
         go false g h =
             let last : put o 0 (replicate (length P) 0) ≡ shown key bytes lens (opener T) shared (book 0 A []) =
-            wiped ∙ ap (put shared 0) (sym (ap (λ (t : Bool). pickString t (opened key (T ++ A)) (replicate (length A) 0)) h)) in
+            wiped ∙ ap (put shared 0) (sym (ap (λ (t : Bool). cond t (opened key (T ++ A)) (replicate (length A) 0)) h)) in
             steps (opener T) bF SF o finish (refusal 8 ended (put o 0 (replicate (length P) 0))) (doneAfter (opener T) bF finish 8) (simp (fittingF, enough, g)) (simp h)
             (ap (λ (x : List ℕ). record { outcome = verdict 8; output = x }) last)
             (finished T A (put o 0 (replicate (length P) 0)) last)

@@ -1,7 +1,7 @@
 -- The third demand holds: by induction over the list of calls, from one relation between a state and the model's book.
 -- Assumes nothing.
 use mathlib.Core.Path.{_≡_, refl, ap, ap₂, sym, subst, _∙_}
-use mathlib.Core.Bool.{Bool, true, false, not, true≢false, false≢true}
+use mathlib.Core.Bool.{Bool, true, false, not, true≢false, false≢true, cond, _||_}
 use mathlib.Core.List.{List, [], _∷_, _++_, append-assoc, append-nil}
 use Prim.Native.Nat.{ℕ, _+_, _-_, _≤_}
 use native.Mathlib.Omega.{arith}
@@ -12,19 +12,19 @@ use borrow.Author.Tests.{ltb-false, eq-eqb, le-ltb}
 use Rattle.octets.specs.Octets.{xors, put}
 use Rattle.octets.proofs.Strings.{take-put}
 use Rattle.aes.specs.Aes.{aes}
-use Rattle.cmac.specs.Cmac.{zeros, pickString}
+use Rattle.cmac.specs.Cmac.{zeros}
 use Rattle.header.specs.Header.{total, strings}
 use Rattle.ctr.specs.Counter.{xorStream}
-use Rattle.siv.specs.Answer.{Outcome, pickNumber, first, verdict}
-use Rattle.siv.specs.Calls.{either, limit, scratchNeed, openCall}
+use Rattle.siv.specs.Answer.{Outcome, verdict}
+use Rattle.siv.specs.Calls.{limit, scratchNeed, openCall}
 use Rattle.siv.specs.Siv.{ctrKey, tagOf, streamed, sealed, opened, genuine}
 use Rattle.siv.proofs.Laws.{openJudged, length-opened}
 use Rattle.stream.specs.declared.Stream.{Stream}
 use Rattle.stream.specs.State.{ended}
 use Rattle.stream.specs.Steps.{Result, success, beginSealer, beginOpener}
-use Rattle.demands.specs.Model.{Book, After, fresh, wants, accepts, outputBefore, pickAfter, modelNumber, modelStep, modelRun}
-use Rattle.demands.specs.Run.{Begin, sealer, opener, Call, add, turn, write, close, feed, finish, begun, call, Entry, run}
-use Rattle.demands.specs.Third.{pickState, onePiece, gaveBy, gave, noFinish, AsModel, AsSealed, fed, AsOpened, ThirdDemand}
+use Rattle.demands.specs.Model.{Book, After, fresh, wants, accepts, outputBefore, modelNumber, modelStep, modelRun}
+use Rattle.demands.specs.Run.{Begin, sealer, opener, Call, add, turn, write, close, feed, finish, begun, Entry, run}
+use Rattle.demands.specs.Third.{onePiece, gaveBy, gave, noFinish, AsModel, AsSealed, fed, AsOpened, ThirdDemand}
 use Rattle.demands.specs.Whole.{Admits}
 use Rattle.demands.proofs.Pieces.{stateOf, begin-state, streamed-append, streamed-rest}
 use Rattle.demands.proofs.Siv.{length-tag, length-streamed}
@@ -83,9 +83,9 @@ module _ (key bytes lens : List ℕ) (a : Admits key bytes lens) where
     -- the state that a book stands for
     abbrev stateBy : Begin → Book → Stream
     stateBy sealer b =
-        pickState (eqb (b .stage) 1) (stateOf key (strings bytes lens) 1 zeros 0 (b .A))
-        (pickState (eqb (b .stage) 2) (stateOf key (strings bytes lens) 2 (tagOf key (strings bytes lens) (b .A)) (length (b .W)) (b .A)) ended)
-    stateBy (opener T) b = pickState (eqb (b .stage) 3) (stateOf key (strings bytes lens) 3 T 0 (streamed key T (b .A))) ended
+        cond (eqb (b .stage) 1) (stateOf key (strings bytes lens) 1 zeros 0 (b .A))
+        (cond (eqb (b .stage) 2) (stateOf key (strings bytes lens) 2 (tagOf key (strings bytes lens) (b .A)) (length (b .W)) (b .A)) ended)
+    stateBy (opener T) b = cond (eqb (b .stage) 3) (stateOf key (strings bytes lens) 3 T 0 (streamed key T (b .A))) ended
 
     known-state : (begin : Begin) (b : Book) (s : Stream) (o : List ℕ) → Known key bytes lens shared begin b s o → s ≡ stateBy begin b
     known-state begin b s o (adding A l) = refl
@@ -112,10 +112,10 @@ module _ (key bytes lens : List ℕ) (a : Admits key bytes lens) where
     zero-state begin b s o (finished T A _ e) z = refl
 
     named : (begin : Begin) (s₀ : Stream) → Known key bytes lens shared begin (fresh begin) s₀ shared → (b : Book) (s : Stream) (o : List ℕ) → Known key bytes lens shared begin b s o
-        → s ≡ pickState (eqb (b .stage) 0) ended (run s₀ shared (onePiece b) .state)
+        → s ≡ cond (eqb (b .stage) 0) ended (run s₀ shared (onePiece b) .state)
     named begin s₀ k₀ b s o k = go (eqb (b .stage) 0) refl
       where
-        go : (t : Bool) → eqb (b .stage) 0 ≡ t → s ≡ pickState t ended (run s₀ shared (onePiece b) .state)
+        go : (t : Bool) → eqb (b .stage) 0 ≡ t → s ≡ cond t ended (run s₀ shared (onePiece b) .state)
         go true z = known-state begin b s o k ∙ zero-state begin b s o k z
         go false z =
             known-state begin b s o k
@@ -138,7 +138,7 @@ module _ (key bytes lens : List ℕ) (a : Admits key bytes lens) where
     -- what a sealer has given when its book is b
     abbrev soFar : Book → List ℕ
     soFar b =
-        pickString (eqb (b .stage) 1) []
+        cond (eqb (b .stage) 1) []
         (tagOf key (strings bytes lens) (b .A) ++ streamed key (tagOf key (strings bytes lens) (b .A)) (b .W))
 
     -- a call gave what its book shows more
@@ -273,8 +273,8 @@ module _ (key bytes lens : List ℕ) (a : Admits key bytes lens) where
         record { joined = joined; firstBytes = λ e. joined ∙ go b e (eqb (b .stage) 1) }
       where
         go : (b : Book) → take (length (b .W)) (b .A) ≡ b .W → (t : Bool)
-            → pickString t [] (tagOf key (strings bytes lens) (b .A) ++ streamed key (tagOf key (strings bytes lens) (b .A)) (b .W))
-            ≡ take (pickNumber t 0 (16 + length (b .W))) (sealed key (strings bytes lens) (b .A))
+            → cond t [] (tagOf key (strings bytes lens) (b .A) ++ streamed key (tagOf key (strings bytes lens) (b .A)) (b .W))
+            ≡ take (cond t 0 (16 + length (b .W))) (sealed key (strings bytes lens) (b .A))
         go b e true = refl
         go b e false = sealed-front (b .A) (b .W) e
 
@@ -286,7 +286,7 @@ module _ (key bytes lens : List ℕ) (a : Admits key bytes lens) where
 
       feed-stays : (b : Book) (piece : List ℕ) → b .stage ≡ 3 → modelStep key bytes lens (opener T) shared b (feed piece) .book .stage ≡ 3
       unfolding modelStep
-      feed-stays b piece e = go (either (eqb (modelNumber key bytes lens (opener T) shared b (feed piece)) 0) (eqb (modelNumber key bytes lens (opener T) shared b (feed piece)) 8))
+      feed-stays b piece e = go (eqb (modelNumber key bytes lens (opener T) shared b (feed piece)) 0 || eqb (modelNumber key bytes lens (opener T) shared b (feed piece)) 8)
         where
           done : After
           done = doneAfter key bytes lens shared a (opener T) b (feed piece) (modelNumber key bytes lens (opener T) shared b (feed piece))
@@ -294,7 +294,7 @@ module _ (key bytes lens : List ℕ) (a : Admits key bytes lens) where
           left : After
           left = refusedAfter key bytes lens shared a (opener T) b (feed piece) (modelNumber key bytes lens (opener T) shared b (feed piece))
 
-          go : (t : Bool) → pickAfter t done left .book .stage ≡ 3
+          go : (t : Bool) → cond t done left .book .stage ≡ 3
           go true = refl
           go false = e
 
@@ -340,8 +340,8 @@ module _ (key bytes lens : List ℕ) (a : Admits key bytes lens) where
         said : (t : Bool) → accepts key bytes lens T (b .A) ≡ t
             → modelStep key bytes lens (opener T) shared b finish .entry
             ≡ record {
-              outcome = record { number = pickNumber (not t) 8 0; count = pickNumber t (length (b .A)) 0 };
-              output = put shared 0 (pickString t (opened key (T ++ b .A)) (replicate (length (b .A)) 0));
+              outcome = record { number = cond (not t) 8 0; count = cond t (length (b .A)) 0 };
+              output = put shared 0 (cond t (opened key (T ++ b .A)) (replicate (length (b .A)) 0));
             }
         unfolding modelStep
         said true h = simp (eq-eqb (b .stage) 3 at, h)

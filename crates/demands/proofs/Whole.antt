@@ -1,7 +1,7 @@
 -- The second demand and the third demand's part on whole calls hold.
 -- Assumes nothing.
 use mathlib.Core.Path.{_≡_, refl, ap, sym, subst, _∙_}
-use mathlib.Core.Bool.{Bool, true, false, not}
+use mathlib.Core.Bool.{Bool, true, false, not, cond}
 use mathlib.Core.List.{List, [], _∷_, _++_}
 use Prim.Native.Nat.{ℕ, _+_, _-_, _≤_}
 use native.Mathlib.Decide.{ℕ-discrete}
@@ -11,7 +11,7 @@ use borrow.Author.Tests.{le-ltb, eq-eqb}
 use Rattle.octets.specs.Octets.{put}
 use Rattle.octets.proofs.Strings.{take-put}
 use Rattle.header.specs.Header.{total, strings}
-use Rattle.siv.specs.Answer.{Outcome, Row, row, pickNumber, verdict}
+use Rattle.siv.specs.Answer.{Outcome, Row, row, verdict}
 use Rattle.siv.specs.Calls.{limit, scratchNeed, headerRows, openRows, sealNumber, sealCall, openNumber, openCall}
 use Rattle.siv.specs.Siv.{sealed, opened, genuine}
 use Rattle.siv.proofs.Laws.{first-pass, first-stop, openJudged, open-admits, length-opened}
@@ -48,7 +48,7 @@ module _ (key bytes lens y output scratch : List ℕ) where
   forgery = row 8 (not (genuine key (strings bytes lens) y)) ∷ []
 
   -- past the judgement the tag decides
-  pub by-tag : openJudged key bytes lens y output scratch ≡ 0 → openNumber key bytes lens y output scratch ≡ pickNumber (not (genuine key (strings bytes lens) y)) 8 0
+  pub by-tag : openJudged key bytes lens y output scratch ≡ 0 → openNumber key bytes lens y output scratch ≡ cond (not (genuine key (strings bytes lens) y)) 8 0
   unfolding openNumber rows forgery
   by-tag j = first-pass rows forgery refl j
 
@@ -64,7 +64,7 @@ module _ (key bytes lens y output scratch : List ℕ) where
   genuine-zero : openNumber key bytes lens y output scratch ≡ 0 → genuine key (strings bytes lens) y ≡ true
   genuine-zero e = go (genuine key (strings bytes lens) y) (sym (by-tag (judged-zero e)) ∙ e)
     where
-      go : (b : Bool) → pickNumber (not b) 8 0 ≡ 0 → b ≡ true
+      go : (b : Bool) → _≡_ {A = ℕ} (cond (not b) 8 0) 0 → b ≡ true
       go true p = refl
       go false p = absurd (omega arith)
 
@@ -73,14 +73,14 @@ module _ (key bytes lens y output scratch : List ℕ) where
       → Gives (openCall key bytes lens y output scratch) output (opened key y)
   unfolding openCall
   open-gives j g =
-      let number : openNumber key bytes lens y output scratch ≡ 0 = by-tag j ∙ ap (λ (b : Bool). pickNumber (not b) 8 0) g in
+      let number : openNumber key bytes lens y output scratch ≡ 0 = by-tag j ∙ ap (λ (b : Bool). cond (not b) 8 0) g in
       (simp number (ap success (sym (length-opened key y))), simp number)
 
   pub open-wipes : openJudged key bytes lens y output scratch ≡ 0 → genuine key (strings bytes lens) y ≡ false
       → (openCall key bytes lens y output scratch .outcome ≡ verdict 8) × (openCall key bytes lens y output scratch .output ≡ put output 0 (replicate (length y - 16) 0))
   unfolding openCall
   open-wipes j g =
-      let number : openNumber key bytes lens y output scratch ≡ 8 = by-tag j ∙ ap (λ (b : Bool). pickNumber (not b) 8 0) g in
+      let number : openNumber key bytes lens y output scratch ≡ 8 = by-tag j ∙ ap (λ (b : Bool). cond (not b) 8 0) g in
       (simp number, simp number)
 
   module _ (a : Admits key bytes lens) (roomy : length y - 16 ≤ length output) (scratchy : scratchNeed (length y - 16) ≤ length scratch) where

@@ -1,7 +1,7 @@
 -- The first demand: every call gives the complete result, or the one refusal that is first due, with state and buffers as document 01's table says.
 -- Assumes nothing.
 use mathlib.Core.Path.{_≡_}
-use mathlib.Core.Bool.{Bool, true, false, not}
+use mathlib.Core.Bool.{Bool, true, false, not, cond}
 use mathlib.Core.List.{List, [], _∷_, _++_}
 use Prim.Native.Nat.{ℕ, _+_, _-_}
 use lib.Dec.{eqb}
@@ -22,16 +22,12 @@ use Rattle.kinphlor.specs.Door.{doorLens, door}
 abbrev pub order : List ℕ
 order = 9 ∷ 1 ∷ 10 ∷ 2 ∷ 3 ∷ 5 ∷ 4 ∷ 6 ∷ 7 ∷ 8 ∷ []
 
-abbrev pub pickTest : Bool → Bool → Bool → Bool
-pickTest true a b = a
-pickTest false a b = b
-
 -- whether rows keep an order
 abbrev pub keeps : List ℕ → List Row → Bool
 keeps [] [] = true
 keeps [] (r ∷ rs) = false
 keeps (n ∷ ns) [] = true
-keeps (n ∷ ns) (r ∷ rs) = pickTest (eqb (r .number) n) (keeps ns rs) (keeps ns (r ∷ rs))
+keeps (n ∷ ns) (r ∷ rs) = cond (eqb (r .number) n) (keeps ns rs) (keeps ns (r ∷ rs))
 
 -- n is the number of the first row that is due, and no row before it is due; or it is 0, and none is due
 pub data FirstDue : List Row → ℕ → Type 0 where

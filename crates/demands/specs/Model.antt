@@ -1,15 +1,14 @@
 -- The reference model, "the plain book" of document 01: what every list of piecewise calls gives, told from the arguments of begin and of the calls alone.
 -- Assumes nothing.
-use mathlib.Core.Bool.{Bool, true, false, not}
+use mathlib.Core.Bool.{Bool, false, not, cond, _||_}
 use mathlib.Core.List.{List, [], _∷_, _++_}
 use Prim.Native.Nat.{ℕ}
 use lib.Dec.{eqb, ltb}
 use lib.ListN.{length, drop, replicate}
 use Rattle.octets.specs.Octets.{put}
-use Rattle.cmac.specs.Cmac.{pickString}
 use Rattle.header.specs.Header.{strings}
-use Rattle.siv.specs.Answer.{Row, row, first, pickNumber, verdict}
-use Rattle.siv.specs.Calls.{either, limit, scratchNeed, openNumber}
+use Rattle.siv.specs.Answer.{Row, row, first, verdict}
+use Rattle.siv.specs.Calls.{limit, scratchNeed, openNumber}
 use Rattle.siv.specs.Siv.{tagOf, streamed, opened}
 use Rattle.demands.specs.Run.{Begin, sealer, opener, Call, add, turn, write, close, feed, finish, Entry}
 
@@ -38,10 +37,6 @@ pub record After : Type 0 where
   pub book : Book
   pub entry : Entry
 
-abbrev pub pickAfter : Bool → After → After → After
-pickAfter true a b = a
-pickAfter false a b = b
-
 -- what a list of calls gave and the book after it
 pub record ModelRun : Type 0 where
   pub entries : List Entry
@@ -63,8 +58,8 @@ module _ (key bytes lens : List ℕ) where
     abbrev pub shownBy : Begin → Book → List ℕ
     shownBy sealer b = shared
     shownBy (opener T) b =
-        pickString (eqb (b .stage) 3) (put shared 0 (streamed key T (b .A)))
-        (put shared 0 (pickString (accepts T (b .A)) (opened key (T ++ b .A)) (replicate (length (b .A)) 0)))
+        cond (eqb (b .stage) 3) (put shared 0 (streamed key T (b .A)))
+        (put shared 0 (cond (accepts T (b .A)) (opened key (T ++ b .A)) (replicate (length (b .A)) 0)))
 
     -- the same, of the list's own begin
     abbrev pub shown : Book → List ℕ
@@ -128,10 +123,10 @@ module _ (key bytes lens : List ℕ) where
     unfoldable pub modelStep : Book → Call → After
     modelStep b c =
         let n = modelNumber b c in
-        pickAfter (either (eqb n 0) (eqb n 8))
+        cond (eqb n 0 || eqb n 8)
         (record {
           book = bookAfter b c;
-          entry = record { outcome = record { number = n; count = pickNumber (eqb n 0) (countAfter b c) 0 }; output = outputAfter b c };
+          entry = record { outcome = record { number = n; count = cond (eqb n 0) (countAfter b c) 0 }; output = outputAfter b c };
         })
         (record { book = b; entry = record { outcome = verdict n; output = outputBefore b c } })
 

@@ -1,37 +1,26 @@
 -- The third demand as one statement: whole opening accepts exactly what sealing gives, and every list of piecewise calls behaves as the model, the plain book of document 01.
 -- Assumes nothing.
 use mathlib.Core.Path.{_≡_}
-use mathlib.Core.Bool.{Bool, true, false}
+use mathlib.Core.Bool.{Bool, true, false, cond}
 use mathlib.Core.List.{List, [], _∷_, _++_}
 use Prim.Native.Nat.{ℕ, _+_, _-_, _≤_}
 use lib.Dec.{eqb}
 use lib.ListN.{length, take, replicate}
 use Rattle.octets.specs.Octets.{put}
-use Rattle.cmac.specs.Cmac.{pickString}
 use Rattle.header.specs.Header.{strings}
-use Rattle.siv.specs.Answer.{pickNumber}
 use Rattle.siv.specs.Calls.{scratchNeed, openCall}
 use Rattle.siv.specs.Siv.{streamed, sealed}
-use Rattle.stream.specs.declared.Stream.{Stream}
 use Rattle.stream.specs.State.{ended}
 use Rattle.stream.specs.Steps.{finishStep}
 use Rattle.demands.specs.Model.{Book, fresh, ModelRun, sealTag, shown, modelRun}
 use Rattle.demands.specs.Run.{Begin, sealer, opener, Call, add, turn, write, close, feed, finish, begun, Entry, Run, run}
 use Rattle.demands.specs.Whole.{Admits, success, ThirdWhole}
 
-abbrev pub pickCalls : Bool → List Call → List Call → List Call
-pickCalls true a b = a
-pickCalls false a b = b
-
-abbrev pub pickState : Bool → Stream → Stream → Stream
-pickState true a b = a
-pickState false a b = b
-
 -- the same bytes in one piece: one add of A in stage 1; one add of A, turn and one write of W in stage 2; one feed of A in stage 3
 abbrev pub onePiece : Book → List Call
 onePiece b =
-    pickCalls (eqb (b .stage) 1) (add (b .A) ∷ [])
-    (pickCalls (eqb (b .stage) 2) (add (b .A) ∷ turn (replicate 16 0) ∷ write (b .W) (b .W) ∷ []) (feed (b .A) ∷ []))
+    cond (eqb (b .stage) 1) (add (b .A) ∷ [])
+    (cond (eqb (b .stage) 2) (add (b .A) ∷ turn (replicate 16 0) ∷ write (b .W) (b .W) ∷ []) (feed (b .A) ∷ []))
 
 -- the bytes that a call gave: turn's and write's, as many as the answer's length says, from the front of the output
 abbrev pub gaveBy : Call → Entry → List ℕ
@@ -76,7 +65,7 @@ module _ (key bytes lens : List ℕ) where
       pub output : ran .shared ≡ shown key bytes lens begin shared (told .book)
       -- the state is that of the same bytes given in one piece; in stage 0 it is all zero
       pub state : ran .state
-          ≡ pickState (eqb (told .book .stage) 0) ended (run (begun begin key bytes lens .state) shared (onePiece (told .book)) .state)
+          ≡ cond (eqb (told .book .stage) 0) ended (run (begun begin key bytes lens .state) shared (onePiece (told .book)) .state)
 
   -- a sealer's list of calls
   module _ (shared : List ℕ) (calls : List Call) where
@@ -89,11 +78,11 @@ module _ (key bytes lens : List ℕ) where
     pub record AsSealed : Type 0 where
       -- turn gave the tag of sealing A, and the accepted writes' bytes, joined, are W xor the key stream of that tag
       pub joined : sealerGave
-          ≡ pickString (eqb (sealerBook .stage) 1) []
+          ≡ cond (eqb (sealerBook .stage) 1) []
           (sealTag key bytes lens (sealerBook .A) ++ streamed key (sealTag key bytes lens (sealerBook .A)) (sealerBook .W))
       -- what turn and the writes gave is the first bytes of sealing all that was added, if the writes brought its first bytes again
       pub firstBytes : take (length (sealerBook .W)) (sealerBook .A) ≡ sealerBook .W
-          → sealerGave ≡ take (pickNumber (eqb (sealerBook .stage) 1) 0 (16 + length (sealerBook .W))) (sealed key (strings bytes lens) (sealerBook .A))
+          → sealerGave ≡ take (cond (eqb (sealerBook .stage) 1) 0 (16 + length (sealerBook .W))) (sealed key (strings bytes lens) (sealerBook .A))
 
   -- all that was fed to an opener
   abbrev pub fed : List ℕ → List ℕ → List Call → List ℕ

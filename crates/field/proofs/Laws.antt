@@ -2,13 +2,13 @@
 -- Assumes nothing.
 use mathlib.Core.Path.{_≡_, refl}
 use mathlib.Core.List.{List}
-use mathlib.Core.Bool.{true}
-use Prim.Native.Nat.{ℕ, _+_, _*_, _/_, _%_, _<_}
+use mathlib.Core.Bool.{true, cond}
+use Prim.Native.Nat.{ℕ, _*_, _/_, _%_, _<_}
 use lib.Bits.{bitXor, bitAnd}
 use lib.Dec.{eqb}
 use lib.ListN.{getD}
 use Rattle.octets.proofs.Tests.{all, agree}
-use Rattle.field.specs.Field.{pick, sbox, IsSbox, inverse, squares, mul, products, xtimes}
+use Rattle.field.specs.Field.{sbox, IsSbox, inverse, squares, mul, products, xtimes}
 
 -- a table that passes the test is the S-box
 pub is-sbox : (table : List ℕ) → all (λ k. eqb (getD table k 0) (sbox k)) 256 ≡ true → IsSbox table
@@ -32,9 +32,9 @@ unfolding mul products xtimes
 thrice-mul = agree 256 (λ k. bitXor k (mul 2 k)) (mul 3) refl
 
 -- 4.4: a byte times its inverse is 01, for every byte but 00, whose inverse is 00
-pub inverse-mul : (b : ℕ) → b < 256 → mul b (inverse b) ≡ pick (eqb b 0) 0 1
+pub inverse-mul : (b : ℕ) → b < 256 → mul b (inverse b) ≡ cond (eqb b 0) 0 1
 unfolding inverse squares mul products xtimes
-inverse-mul = agree 256 (λ k. mul k (inverse k)) (λ k. pick (eqb k 0) 0 1) refl
+inverse-mul = agree 256 (λ k. mul k (inverse k)) (λ k. cond (eqb k 0) 0 1) refl
 
 pub inverse-zero : inverse 0 ≡ 0
 unfolding inverse squares mul products xtimes

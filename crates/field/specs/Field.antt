@@ -2,27 +2,22 @@
 -- Assumes nothing.
 use mathlib.Core.Path.{_≡_}
 use mathlib.Core.List.{List}
-use mathlib.Core.Bool.{Bool, true, false}
+use mathlib.Core.Bool.{cond}
 use Prim.Native.Nat.{ℕ, zero, suc, _+_, _*_, _/_, _%_, _^_, _<_}
 use lib.Bits.{bitXor}
 use lib.Dec.{ltb, eqb}
 use lib.ListN.{getD}
 
--- the first number where the test passes, else the second
-abbrev pub pick : Bool → ℕ → ℕ → ℕ
-pick true a b = a
-pick false a b = b
-
 -- 4.1, addition: the sum of two bytes is their xor, `bitXor`
 
 -- 4.2, xTIMES: a byte times x, modulo x⁸ + x⁴ + x³ + x + 1, which is 11b
 unfoldable pub xtimes : ℕ → ℕ
-xtimes b = pick (ltb b 0x80) (2 * b) (bitXor (2 * b) 0x11b)
+xtimes b = cond (ltb b 0x80) (2 * b) (bitXor (2 * b) 0x11b)
 
 -- the products of `b` with the n lowest powers of x in `a`, added up
 unfoldable pub products : ℕ → ℕ → ℕ → ℕ
 products zero a b = 0
-products (suc n) a b = bitXor (pick (eqb (a % 2) 1) b 0) (products n (a / 2) (xtimes b))
+products (suc n) a b = bitXor (cond (eqb (a % 2) 1) b 0) (products n (a / 2) (xtimes b))
 
 -- 4.2, multiplication: the product of two bytes
 unfoldable pub mul : ℕ → ℕ → ℕ

@@ -5,7 +5,7 @@ use Prim.Native.Nat.{ℕ, zero, suc, _+_, _*_, _/_, _%_, _<_}
 use native.Mathlib.Nat.{mod-lt, le-of-suc-le-suc, not-suc-le-zero, zero-lt-suc}
 use native.Mathlib.Omega.{arith}
 use lib.Arith.{bin-ind, digits-div, digits-mod}
-use lib.Bits.{bitXor, bitOr, bitAnd, differ, xor-step, xor-zero-r, xor-self, and-le-l, and-le-r, or-add-and}
+use lib.Bits.{bitXor, bitOr, differ, xor-step, xor-zero-r, xor-self, and-le-l, and-le-r, or-add-and}
 
 two-pos : zero < 2
 two-pos = zero-lt-suc 1

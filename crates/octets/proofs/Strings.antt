@@ -1,7 +1,7 @@
 -- Laws of `xors`, `put` and `same` on strings.
 -- Assumes nothing.
 use mathlib.Core.Path.{_≡_, refl, sym, ap, ap₂, _∙_}
-use mathlib.Core.Bool.{true, false≢true}
+use mathlib.Core.Bool.{true, false≢true, _&&_, and-eq-true-iff}
 use mathlib.Core.List.{List, [], _∷_, _++_, append-assoc, append-nil}
 use Prim.Native.Nat.{ℕ, zero, suc, _+_, _-_, _≤_, _<_, zero-le}
 use native.Mathlib.Nat.{le-of-suc-le-suc, not-suc-le-zero}
@@ -12,9 +12,9 @@ use lib.Dec.{eqb}
 use lib.ListN.{length, take, drop, getD, set, length-append, length-drop, length-set}
 use lib.Seq.{paste, paste-zero, paste-suc, take-length, drop-length, length-take-le, take-at, drop-at, drop-drop, take-suc, take-take, take-all, getD-take}
 use borrow.Author.Tests.{eqb-true, eq-eqb}
-use Rattle.octets.specs.Octets.{xors, put, part, both, same}
+use Rattle.octets.specs.Octets.{xors, put, part, same}
 use Rattle.octets.proofs.Bits.{xor-undo, xor-zero, or-zero}
-use Rattle.octets.proofs.Tests.{both-left, both-right, bool-ext}
+use Rattle.octets.proofs.Tests.{bool-ext}
 
 -- ---- xor
 
@@ -170,12 +170,12 @@ same-eq [] [] e = refl
 same-eq [] (y ∷ b) e = absurd (false≢true e)
 same-eq (x ∷ a) [] e = absurd (false≢true e)
 same-eq (x ∷ a) (y ∷ b) e =
-    ap₂ (λ (h : ℕ) (t : List ℕ). h ∷ t) (eqb-true x y (both-left (eqb x y) (same a b) e)) (same-eq a b (both-right (eqb x y) (same a b) e))
+    ap₂ (λ (h : ℕ) (t : List ℕ). h ∷ t) (eqb-true x y (and-eq-true-iff (eqb x y) (same a b) .0 e .0)) (same-eq a b (and-eq-true-iff (eqb x y) (same a b) .0 e .1))
 
 pub same-refl : (a : List ℕ) → same a a ≡ true
 unfolding same
 same-refl [] = refl
-same-refl (x ∷ a) = ap₂ both (eq-eqb x x refl) (same-refl a)
+same-refl (x ∷ a) = ap₂ _&&_ (eq-eqb x x refl) (same-refl a)
 
 -- a loop that gathers by or in what the first i bytes of `a` and `b` differ
 pub record Differ (a b : List ℕ) (diff i : ℕ) : Type 0 where

@@ -1,6 +1,6 @@
 -- Byte strings as lists of numbers: xor, writing a part, comparison.
 -- Assumes nothing.
-use mathlib.Core.Bool.{Bool, true, false}
+use mathlib.Core.Bool.{Bool, true, false, _&&_}
 use mathlib.Core.List.{List, [], _∷_, _++_}
 use Prim.Native.Nat.{ℕ, _+_}
 use lib.Bits.{bitXor}
@@ -21,14 +21,9 @@ put l at s = take at l ++ s ++ drop (at + length s) l
 abbrev pub part : List ℕ → ℕ → ℕ → List ℕ
 part l at n = take n (drop at l)
 
--- both tests pass
-abbrev pub both : Bool → Bool → Bool
-both true b = b
-both false b = false
-
 -- whether two strings are the same
 unfoldable pub same : List ℕ → List ℕ → Bool
 same [] [] = true
 same [] (y ∷ b) = false
 same (x ∷ a) [] = false
-same (x ∷ a) (y ∷ b) = both (eqb x y) (same a b)
+same (x ∷ a) (y ∷ b) = eqb x y && same a b

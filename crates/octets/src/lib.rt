@@ -1,8 +1,7 @@
 // Byte strings: blocks of 16 bytes by value, and parts of lent slices.
 ghost use mathlib.Core.Path.{_≡_};
-ghost use mathlib.Core.List.{_++_};
 ghost use Prim.Native.Nat.{_+_, _≤_};
-ghost use lib.ListN.{length, take, drop, replicate};
+ghost use lib.ListN.{length, replicate};
 ghost use Rattle.octets.specs.Octets.{xors, put, part, same};
 
 // A block: 16 bytes, byte 0 first.

@@ -1,13 +1,13 @@
 -- S2V, RFC 5297 2.4, over any block function E.
 -- Assumes nothing.
 use mathlib.Core.List.{List, [], _∷_, _++_}
-use mathlib.Core.Bool.{Bool, true, false}
+use mathlib.Core.Bool.{cond}
 use Prim.Native.Nat.{ℕ, _+_, _-_, _%_}
 use lib.Dec.{ltb}
 use lib.ListN.{length, take, drop}
 use Rattle.octets.specs.Octets.{xors}
 use Rattle.cmac.specs.declared.Subkeys.{Subkeys}
-use Rattle.cmac.specs.Cmac.{pickString, zeros, double, pad, subkeys, cmacFrom, zeroCipher}
+use Rattle.cmac.specs.Cmac.{zeros, double, pad, subkeys, cmacFrom, zeroCipher}
 
 -- RFC 5297 2.1, xorend: d xored onto the last 16 bytes of p
 unfoldable pub xorend : List ℕ → List ℕ → List ℕ
@@ -15,15 +15,11 @@ xorend p d = take (length p - 16) p ++ xors (drop (length p - 16) p) d
 
 -- 2.4, T: what the tag is the CMAC of
 unfoldable pub lastString : List ℕ → List ℕ → List ℕ
-lastString d p = pickString (ltb (length p) 16) (xors (double d) (pad p)) (xorend p d)
-
-abbrev pub pickNumber : Bool → ℕ → ℕ → ℕ
-pickNumber true a b = a
-pickNumber false a b = b
+lastString d p = cond (ltb (length p) 16) (xors (double d) (pad p)) (xorend p d)
 
 -- how many bytes at the end of a plaintext wait for its end: "the hold" of document 01
 unfoldable pub tailLength : ℕ → ℕ
-tailLength total = pickNumber (ltb total 16) total (16 + total % 16)
+tailLength total = cond (ltb total 16) total (16 + total % 16)
 
 module _ (E : List ℕ → List ℕ) where
   -- 2.4: D is doubled for each string and its CMAC is xored in

@@ -1,7 +1,7 @@
 -- Laws of keys, of the order of refusals and of the whole calls' definitions.
 -- Assumes nothing.
 use mathlib.Core.Path.{_≡_, refl, ap, ap₂, sym, subst, _∙_}
-use mathlib.Core.Bool.{Bool, true, false, not, false≢true}
+use mathlib.Core.Bool.{Bool, true, false, not, false≢true, cond, _&&_, _||_, and-eq-true-iff}
 use mathlib.Core.List.{List, [], _∷_, _++_}
 use Prim.Native.Nat.{ℕ, suc, _+_, _-_, _/_, _≤_}
 use native.Mathlib.Omega.{arith}
@@ -11,9 +11,8 @@ use lib.Seq.{drop-append-add, drop-drop}
 use borrow.Author.Tests.{eqb-true, eq-eqb, ne-eqb, ltb-false, not-false}
 use types.Run.{OneOf}
 use denote.Enum.Declared.{tagOf}
-use Rattle.octets.specs.Octets.{both, put}
+use Rattle.octets.specs.Octets.{put}
 use Rattle.octets.proofs.Strings.{take-put}
-use Rattle.octets.proofs.Tests.{both-left, both-right}
 use Rattle.aes.specs.Aes.{isWidth, aes}
 use Rattle.aes.specs.Cipher.{cipher}
 use Rattle.aes.specs.KeyExpansion.{roundKeys}
@@ -23,8 +22,8 @@ use Rattle.siv.specs.declared.Answer.{Answer}
 use Rattle.siv.specs.declared.Answer.the-variants.{Done, Refused}
 use Rattle.siv.specs.declared.Refusal.{Refusal}
 use Rattle.siv.specs.declared.Refusal.the-variants.{KeyLength, HeaderCount, HeaderLengths, TooLong, SealedLength, OutputShort, ScratchShort, Forged, State, EmptyNonce}
-use Rattle.siv.specs.Answer.{Outcome, Row, row, pickNumber, first, numberOf, outcomeOf, verdict}
-use Rattle.siv.specs.Calls.{either, isKeyLength, limit, scratchNeed, headerRows, openRows, Did, sealNumber, sealCall, openNumber, openCall}
+use Rattle.siv.specs.Answer.{Outcome, Row, row, first, numberOf, outcomeOf, verdict}
+use Rattle.siv.specs.Calls.{isKeyLength, limit, scratchNeed, headerRows, openRows, Did, sealNumber, sealCall, openNumber, openCall}
 use Rattle.siv.specs.Siv.{streamed, sealed, opened, genuine}
 use Rattle.siv.proofs.Answer.{the-type}
 
@@ -43,7 +42,7 @@ halves n e = go (eqb n 32) (eqb n 48) (eqb-true n 32) (eqb-true n 48) (eqb-true 
     at : (m : ℕ) → KeyHalves m → n ≡ m → KeyHalves n
     at m k p = subst KeyHalves (sym p) k
 
-    go : (a b : Bool) → (a ≡ true → n ≡ 32) → (b ≡ true → n ≡ 48) → (eqb n 64 ≡ true → n ≡ 64) → either a (either b (eqb n 64)) ≡ true → KeyHalves n
+    go : (a b : Bool) → (a ≡ true → n ≡ 32) → (b ≡ true → n ≡ 48) → (eqb n 64 ≡ true → n ≡ 64) → (a || b || eqb n 64) ≡ true → KeyHalves n
     go true b f g h t = at 32 (record { half = refl; even = refl; most = omega arith }) (f refl)
     go false true f g h t = at 48 (record { half = refl; even = refl; most = omega arith }) (g refl)
     go false false f g h t = at 64 (record { half = refl; even = refl; most = omega arith }) (h t)
@@ -53,24 +52,24 @@ halves n e = go (eqb n 32) (eqb n 48) (eqb-true n 32) (eqb-true n 48) (eqb-true 
 -- no row has the number n
 abbrev pub lacks : ℕ → List Row → Bool
 lacks n [] = true
-lacks n (r ∷ rs) = both (not (eqb (r .number) n)) (lacks n rs)
+lacks n (r ∷ rs) = not (eqb (r .number) n) && lacks n rs
 
 -- a number that no row has is not the first due
 pub first-not : (n : ℕ) (rs : List Row) → lacks n rs ≡ true → (0 ≡ n → ⊥) → first rs ≡ n → ⊥
 first-not n [] l z e = z e
-first-not n (r ∷ rs) l z e = go (r .due) (first-not n rs (both-right (not (eqb (r .number) n)) (lacks n rs) l) z) e
+first-not n (r ∷ rs) l z e = go (r .due) (first-not n rs (and-eq-true-iff (not (eqb (r .number) n)) (lacks n rs) .0 l .1) z) e
   where
-    go : (d : Bool) → (first rs ≡ n → ⊥) → pickNumber d (r .number) (first rs) ≡ n → ⊥
-    go true ih p = false≢true (sym (ap not (eq-eqb (r .number) n p)) ∙ both-left (not (eqb (r .number) n)) (lacks n rs) l)
+    go : (d : Bool) → (first rs ≡ n → ⊥) → cond d (r .number) (first rs) ≡ n → ⊥
+    go true ih p = false≢true (sym (ap not (eq-eqb (r .number) n p)) ∙ and-eq-true-iff (not (eqb (r .number) n)) (lacks n rs) .0 l .0)
     go false ih p = ih p
 
 -- where no row of the first list is due, the second decides
 pub first-pass : (a b : List Row) → lacks 0 a ≡ true → first a ≡ 0 → first (a ++ b) ≡ first b
 first-pass [] b l e = refl
-first-pass (r ∷ a) b l e = go (r .due) (first-pass a b (both-right (not (eqb (r .number) 0)) (lacks 0 a) l)) e
+first-pass (r ∷ a) b l e = go (r .due) (first-pass a b (and-eq-true-iff (not (eqb (r .number) 0)) (lacks 0 a) .0 l .1)) e
   where
-    go : (d : Bool) → (first a ≡ 0 → first (a ++ b) ≡ first b) → pickNumber d (r .number) (first a) ≡ 0 → pickNumber d (r .number) (first (a ++ b)) ≡ first b
-    go true ih p = absurd (false≢true (sym (ap not (eq-eqb (r .number) 0 p)) ∙ both-left (not (eqb (r .number) 0)) (lacks 0 a) l))
+    go : (d : Bool) → (first a ≡ 0 → first (a ++ b) ≡ first b) → cond d (r .number) (first a) ≡ 0 → cond d (r .number) (first (a ++ b)) ≡ first b
+    go true ih p = absurd (false≢true (sym (ap not (eq-eqb (r .number) 0 p)) ∙ and-eq-true-iff (not (eqb (r .number) 0)) (lacks 0 a) .0 l .0))
     go false ih p = ih p
 
 -- where a row of the first list is due, it decides
@@ -78,8 +77,8 @@ pub first-stop : (a b : List Row) → (first a ≡ 0 → ⊥) → first (a ++ b)
 first-stop [] b e = absurd (e refl)
 first-stop (r ∷ a) b e = go (r .due) (first-stop a b) e
   where
-    go : (d : Bool) → ((first a ≡ 0 → ⊥) → first (a ++ b) ≡ first a) → (pickNumber d (r .number) (first a) ≡ 0 → ⊥)
-        → pickNumber d (r .number) (first (a ++ b)) ≡ pickNumber d (r .number) (first a)
+    go : (d : Bool) → ((first a ≡ 0 → ⊥) → first (a ++ b) ≡ first a) → (cond d (r .number) (first a) ≡ 0 → ⊥)
+        → cond d (r .number) (first (a ++ b)) ≡ cond d (r .number) (first a)
     go true ih p = refl
     go false ih p = ih p
 
@@ -137,7 +136,7 @@ pub record SealAdmits (key bytes lens input output scratch : List ℕ) : Type 0 
   pub roomy : length input + 16 ≤ length output
   pub scratchy : scratchNeed (length input) ≤ length scratch
 
-pub not-due : (b : Bool) (n rest : ℕ) → pickNumber b (suc n) rest ≡ 0 → (b ≡ false) × (rest ≡ 0)
+pub not-due : (b : Bool) (n rest : ℕ) → cond b (suc n) rest ≡ 0 → (b ≡ false) × (rest ≡ 0)
 not-due true n rest e = absurd (omega arith)
 not-due false n rest e = (refl, e)
 
@@ -254,7 +253,7 @@ module _ (key bytes lens input output scratch : List ℕ) where
   stops due = first-stop rows (row 8 (not (genuine key (strings bytes lens) input)) ∷ []) due
 
   -- past the judgement the tag decides
-  passes : openJudged ≡ 0 → number ≡ pickNumber (not (genuine key (strings bytes lens) input)) 8 0
+  passes : openJudged ≡ 0 → number ≡ cond (not (genuine key (strings bytes lens) input)) 8 0
   unfolding number rows openNumber
   passes judged = first-pass rows (row 8 (not (genuine key (strings bytes lens) input)) ∷ []) refl judged
 
@@ -276,12 +275,12 @@ module _ (key bytes lens input output scratch : List ℕ) where
         → Did (openCall key bytes lens input output scratch) (Done (length input - 16)) output′ scratch′
     unfolding openCall number
     open-done g p =
-        let none : number ≡ 0 = passes judged ∙ ap (λ (b : Bool). pickNumber (not b) 8 0) g in
+        let none : number ≡ 0 = passes judged ∙ ap (λ (b : Bool). cond (not b) 8 0) g in
         record { outcome = simp none; output = simp none p; scratch = simp none wiped }
 
     pub open-forged : genuine key (strings bytes lens) input ≡ false → output′ ≡ put output 0 (replicate (length input - 16) 0)
         → Did (openCall key bytes lens input output scratch) (Refused Forged) output′ scratch′
     unfolding openCall number
     open-forged g p =
-        let eight : number ≡ 8 = passes judged ∙ ap (λ (b : Bool). pickNumber (not b) 8 0) g in
+        let eight : number ≡ 8 = passes judged ∙ ap (λ (b : Bool). cond (not b) 8 0) g in
         record { outcome = simp eight; output = simp eight p; scratch = simp eight wiped }

@@ -1,6 +1,6 @@
 -- What a call answers: document 01's table of answers.
 -- Assumes nothing.
-use mathlib.Core.Bool.{Bool, true, false}
+use mathlib.Core.Bool.{Bool, cond}
 use mathlib.Core.List.{List, [], _∷_}
 use Prim.Native.Nat.{ℕ}
 use Rattle.siv.specs.declared.Refusal.{Refusal}
@@ -39,14 +39,10 @@ pub record Row : Type 0 where
 abbrev pub row : ℕ → Bool → Row
 row n b = record { number = n; due = b }
 
-abbrev pub pickNumber : Bool → ℕ → ℕ → ℕ
-pickNumber true a b = a
-pickNumber false a b = b
-
 -- the number of the first row that is due, or 0
 abbrev pub first : List Row → ℕ
 first [] = 0
-first (r ∷ rs) = pickNumber (r .due) (r .number) (first rs)
+first (r ∷ rs) = cond (r .due) (r .number) (first rs)
 
 -- a number with length 0
 abbrev pub verdict : ℕ → Outcome

@@ -1,25 +1,20 @@
 -- Whole sealing and opening on every input: number, length and the last contents of each lent buffer, from document 01.
 -- Assumes nothing.
 use mathlib.Core.Path.{_≡_}
-use mathlib.Core.Bool.{Bool, true, false, not}
+use mathlib.Core.Bool.{Bool, not, cond, _||_}
 use mathlib.Core.List.{List, [], _∷_, _++_}
 use Prim.Native.Nat.{ℕ, _+_, _-_, max}
 use lib.Dec.{ltb, eqb}
 use lib.ListN.{length, replicate}
 use Rattle.octets.specs.Octets.{put}
-use Rattle.cmac.specs.Cmac.{pickString}
 use Rattle.header.specs.Header.{total, strings}
 use Rattle.siv.specs.declared.Answer.{Answer}
-use Rattle.siv.specs.Answer.{Outcome, Row, row, first, pickNumber, outcomeOf}
+use Rattle.siv.specs.Answer.{Outcome, Row, row, first, outcomeOf}
 use Rattle.siv.specs.Siv.{sealed, opened, genuine}
-
-abbrev pub either : Bool → Bool → Bool
-either true b = true
-either false b = b
 
 -- keys have 32, 48 or 64 bytes
 unfoldable pub isKeyLength : ℕ → Bool
-isKeyLength n = either (eqb n 32) (either (eqb n 48) (eqb n 64))
+isKeyLength n = eqb n 32 || eqb n 48 || eqb n 64
 
 -- the longest plaintext
 abbrev pub limit : ℕ
@@ -66,9 +61,9 @@ module _ (key bytes lens input output scratch : List ℕ) where
       let n = length input in
       let done = eqb sealNumber 0 in
       record {
-        outcome = record { number = sealNumber; count = pickNumber done (n + 16) 0 };
-        output = pickString done (put output 0 (sealed key (strings bytes lens) input)) output;
-        scratch = pickString done (put scratch 0 (replicate (scratchNeed n) 0)) scratch;
+        outcome = record { number = sealNumber; count = cond done (n + 16) 0 };
+        output = cond done (put output 0 (sealed key (strings bytes lens) input)) output;
+        scratch = cond done (put scratch 0 (replicate (scratchNeed n) 0)) scratch;
       }
 
   -- the number that opening returns
@@ -85,7 +80,7 @@ module _ (key bytes lens input output scratch : List ℕ) where
       let done = eqb openNumber 0 in
       let forged = eqb openNumber 8 in
       record {
-        outcome = record { number = openNumber; count = pickNumber done n 0 };
-        output = pickString done (put output 0 (opened key input)) (pickString forged (put output 0 (replicate n 0)) output);
-        scratch = pickString (either done forged) (put scratch 0 (replicate (scratchNeed n) 0)) scratch;
+        outcome = record { number = openNumber; count = cond done n 0 };
+        output = cond done (put output 0 (opened key input)) (cond forged (put output 0 (replicate n 0)) output);
+        scratch = cond (done || forged) (put scratch 0 (replicate (scratchNeed n) 0)) scratch;
       }

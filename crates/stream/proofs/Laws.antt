@@ -1,7 +1,7 @@
 -- Laws of joined strings, of what refusal 9 judges and of the calls' results.
 -- Assumes nothing.
 use mathlib.Core.Path.{_≡_, refl, ap, ap₂, sym, subst, _∙_}
-use mathlib.Core.Bool.{Bool, true, false, not}
+use mathlib.Core.Bool.{Bool, true, false, not, cond, _&&_, _||_, and-eq-true-iff}
 use mathlib.Core.List.{List, [], _∷_, _++_, append-assoc}
 use Prim.Native.Nat.{ℕ, suc, _+_, _-_, _*_, _/_, _%_, _≤_, _<_}
 use native.Mathlib.Numerals.{add-one}
@@ -11,10 +11,9 @@ use lib.Dec.{eqb, ltb}
 use lib.ListN.{length, getD, take, drop, replicate, length-drop, drop-of-length-le}
 use lib.Seq.{take-all, take-append-le, take-append-add, drop-append-le, drop-append-add, drop-cons, length-take-le, take-at, drop-at}
 use borrow.Author.Tests.{eqb-true, eq-eqb, ne-eqb, ltb-false, lt-ltb, le-ltb, not-true, not-false}
-use Rattle.octets.specs.Octets.{both, put, part, same}
+use Rattle.octets.specs.Octets.{put, part, same}
 use Rattle.octets.proofs.Strings.{part-to}
-use Rattle.octets.proofs.Tests.{both-left, both-right}
-use Rattle.aes.specs.Aes.{isWidth, either}
+use Rattle.aes.specs.Aes.{isWidth}
 use Rattle.aes.specs.Cipher.{cipher}
 use Rattle.aes.specs.KeyExpansion.{roundKeys}
 use Rattle.cmac.specs.declared.Subkeys.{Subkeys}
@@ -26,14 +25,14 @@ use Rattle.ctr.proofs.Laws.{length-xorStream}
 use Rattle.siv.specs.declared.Answer.{Answer}
 use Rattle.siv.specs.declared.Answer.the-variants.{Done, Refused}
 use Rattle.siv.specs.declared.Refusal.the-variants.{Forged}
-use Rattle.siv.specs.Answer.{Outcome, Row, row, pickNumber, first, outcomeOf, verdict}
+use Rattle.siv.specs.Answer.{Outcome, Row, row, first, outcomeOf, verdict}
 use Rattle.siv.specs.Calls.{isKeyLength, limit, headerRows}
 use Rattle.siv.specs.Siv.{macKey, ctrKey}
 use Rattle.siv.proofs.Laws.{not-due, first-not, first-pass, first-stop}
 use Rattle.stream.specs.declared.Step.{Step}
 use Rattle.stream.specs.declared.Stream.{Stream}
 use Rattle.stream.specs.State.{allZero, writtenLimit, fits, passedBlocks, tailOf, added, ended, start, tagOfState}
-use Rattle.stream.specs.Steps.{Result, Did, pickResult, success, refusal, settle, openerRows, streamedAt, finishStep, addRows, turnRows, writeRows, feedRows, finishRows}
+use Rattle.stream.specs.Steps.{Result, Did, success, refusal, settle, openerRows, streamedAt, finishStep, addRows, turnRows, writeRows, feedRows, finishRows}
 
 -- ---- parts of two joined strings
 
@@ -60,12 +59,12 @@ pub zero-more : (s : List ℕ) (i : ℕ) → i < length s → getD s i 0 ≡ 0 �
 unfolding allZero
 zero-more s i h e =
     ap allZero (drop-cons s i 0 h)
-    ∙ ap (λ (t : Bool). both t (allZero (drop (suc i) s))) (eq-eqb (getD s i 0) 0 e)
+    ∙ ap (λ (t : Bool). t && allZero (drop (suc i) s)) (eq-eqb (getD s i 0) 0 e)
     ∙ ap (λ (k : ℕ). allZero (drop k s)) (sym (add-one i))
 
 pub zero-stop : (s : List ℕ) (i : ℕ) → i < length s → (getD s i 0 ≡ 0 → ⊥) → allZero (drop i s) ≡ false
 unfolding allZero
-zero-stop s i h e = ap allZero (drop-cons s i 0 h) ∙ ap (λ (t : Bool). both t (allZero (drop (suc i) s))) (ne-eqb (getD s i 0) 0 e)
+zero-stop s i h e = ap allZero (drop-cons s i 0 h) ∙ ap (λ (t : Bool). t && allZero (drop (suc i) s)) (ne-eqb (getD s i 0) 0 e)
 
 pub zero-end : (s : List ℕ) (i : ℕ) → length s ≤ i → allZero (drop i s) ≡ true
 unfolding allZero
@@ -83,7 +82,7 @@ width-most : (n : ℕ) → isWidth n ≡ true → n ≤ 32
 unfolding isWidth
 width-most n e = go (eqb n 16) (eqb n 24) (eqb-true n 16) (eqb-true n 24) (eqb-true n 32) e
   where
-    go : (a b : Bool) → (a ≡ true → n ≡ 16) → (b ≡ true → n ≡ 24) → (eqb n 32 ≡ true → n ≡ 32) → either a (either b (eqb n 32)) ≡ true → n ≤ 32
+    go : (a b : Bool) → (a ≡ true → n ≡ 16) → (b ≡ true → n ≡ 24) → (eqb n 32 ≡ true → n ≡ 32) → (a || b || eqb n 32) ≡ true → n ≤ 32
     go true b f g h t = let k : n ≡ 16 = f refl in omega arith
     go false true f g h t = let k : n ≡ 24 = g refl in omega arith
     go false false f g h t = let k : n ≡ 32 = h t in omega arith
@@ -97,15 +96,14 @@ pub record Fit (wanted : ℕ) (s : Stream) : Type 0 where
 pub fit : (wanted : ℕ) (s : Stream) → fits wanted s ≡ true → Fit wanted s
 unfolding fits
 fit wanted s e =
-    let a = both-right (eqb (s .stage) wanted) _ e in
-    let b = both-right (isWidth (s .width)) _ a in
-    let d = both-right (not (ltb limit (s .total))) _ b in
+    let a = and-eq-true-iff _ (allZero (drop (tailLength (s .total)) (s .tail))) .0 e .0 in
+    let b = and-eq-true-iff _ (not (ltb (writtenLimit wanted (s .total)) (s .written))) .0 a in
+    let d = and-eq-true-iff _ (not (ltb limit (s .total))) .0 (b .0) in
+    let f = and-eq-true-iff (eqb (s .stage) wanted) (isWidth (s .width)) .0 (d .0) in
     record {
-      width = width-most (s .width) (both-left (isWidth (s .width)) _ a);
-      total = ltb-false limit (s .total) (not-true (ltb limit (s .total)) (both-left (not (ltb limit (s .total))) _ b));
-      written =
-          ltb-false (writtenLimit wanted (s .total)) (s .written)
-          (not-true (ltb (writtenLimit wanted (s .total)) (s .written)) (both-left (not (ltb (writtenLimit wanted (s .total)) (s .written))) _ d));
+      width = width-most (s .width) (f .1);
+      total = ltb-false limit (s .total) (not-true (ltb limit (s .total)) (d .1));
+      written = ltb-false (writtenLimit wanted (s .total)) (s .written) (not-true (ltb (writtenLimit wanted (s .total)) (s .written)) (b .1));
     }
 
 -- ---- the calls' results
@@ -114,12 +112,12 @@ pub refused : (a : Answer) (n : ℕ) (done : Result) (s : Stream) (output : List
     → Did (settle n done s output) (record { answer = a; state = s }) output
 refused a n done s output k e =
     let off : eqb n 0 ≡ false = ne-eqb n 0 (λ z. k (ap (λ (o : Outcome). o .number) e ∙ z)) in
-    subst (λ (t : Bool). Did (pickResult t done (refusal n s output)) (record { answer = a; state = s }) output) (sym off)
+    subst (λ (t : Bool). Did (cond t done (refusal n s output)) (record { answer = a; state = s }) output) (sym off)
     (record { outcome = e; state = refl; output = refl })
 
 pub done : (n : ℕ) (result : Result) (s : Stream) (output : List ℕ) {step : Step} {last : List ℕ} → n ≡ 0 → Did result step last → Did (settle n result s output) step last
 done n result s output {step} {last} e d =
-    subst (λ (t : Bool). Did (pickResult t result (refusal n s output)) step last) (sym (eq-eqb n 0 e)) d
+    subst (λ (t : Bool). Did (cond t result (refusal n s output)) step last) (sym (eq-eqb n 0 e)) d
 
 -- ---- the tail
 
@@ -147,7 +145,7 @@ passed-more n m = go (decLt n 16) (decLt (n + m) 16)
 -- ---- what the refusals leave
 
 module _ (s : Stream) where
-  stated : (wanted rest : ℕ) → pickNumber (not (fits wanted s)) 9 rest ≡ 0 → Fit wanted s × (rest ≡ 0)
+  stated : (wanted rest : ℕ) → cond (not (fits wanted s)) 9 rest ≡ 0 → Fit wanted s × (rest ≡ 0)
   stated wanted rest e =
       let a = not-due (not (fits wanted s)) 8 rest e in
       (fit wanted s (not-false (fits wanted s) (a .0)), a .1)
@@ -290,24 +288,24 @@ module _ (s : Stream) (output : List ℕ) where
       let stops : number ≡ first judged = first-stop judged forgery due in
       let off8 : eqb number 8 ≡ false = ne-eqb number 8 (λ z. first-not 8 judged refl (λ z. omega arith) (sym stops ∙ z)) in
       let d = refused a number (success (s .total) ended output) s output k (e ∙ ap verdict (sym stops)) in
-      subst (λ (t : Bool). Did (pickResult t (refusal 8 ended (put output 0 (replicate (s .total) 0))) (settle number (success (s .total) ended output) s output)) (record { answer = a; state = s }) output) (sym off8) d
+      subst (λ (t : Bool). Did (cond t (refusal 8 ended (put output 0 (replicate (s .total) 0))) (settle number (success (s .total) ended output) s output)) (record { answer = a; state = s }) output) (sym off8) d
 
   module _ {state : Stream} (none : first (finishRows s (length output)) ≡ 0) (ends : state ≡ ended) where
-    by-tag : number ≡ pickNumber (not (same (tagOfState s) (s .v))) 8 0
+    by-tag : number ≡ cond (not (same (tagOfState s) (s .v))) 8 0
     unfolding judged forgery number
     by-tag = first-pass judged forgery refl none
 
     pub finish-done : same (tagOfState s) (s .v) ≡ true → Did (finishStep s output) (record { answer = Done (s .total); state = state }) output
     unfolding finishStep number
     finish-done g =
-        let zero : number ≡ 0 = by-tag ∙ ap (λ (t : Bool). pickNumber (not t) 8 0) g in
+        let zero : number ≡ 0 = by-tag ∙ ap (λ (t : Bool). cond (not t) 8 0) g in
         record { outcome = simp zero; state = simp zero ends; output = simp zero }
 
     pub finish-forged : (last : List ℕ) → same (tagOfState s) (s .v) ≡ false → last ≡ put output 0 (replicate (s .total) 0)
         → Did (finishStep s output) (record { answer = Refused Forged; state = state }) last
     unfolding finishStep number
     finish-forged last g p =
-        let eight : number ≡ 8 = by-tag ∙ ap (λ (t : Bool). pickNumber (not t) 8 0) g in
+        let eight : number ≡ 8 = by-tag ∙ ap (λ (t : Bool). cond (not t) 8 0) g in
         record { outcome = simp eight; state = simp eight ends; output = simp eight p }
 
 -- ---- begin

@@ -1,17 +1,16 @@
 -- The stream state: which ones a call takes, and what a piece makes of one. Document 01, "Piecewise calls".
 -- Assumes nothing.
-use mathlib.Core.Bool.{Bool, true, not}
+use mathlib.Core.Bool.{Bool, true, not, cond, _&&_}
 use mathlib.Core.List.{List, [], _∷_, _++_}
 use Prim.Native.Nat.{ℕ, _+_, _-_, _*_, _/_}
 use lib.Dec.{eqb, ltb}
 use lib.ListN.{length, take, drop, replicate}
-use Rattle.octets.specs.Octets.{put, both}
+use Rattle.octets.specs.Octets.{put}
 use Rattle.aes.specs.Aes.{isWidth}
 use Rattle.aes.specs.Cipher.{cipher}
 use Rattle.aes.specs.KeyExpansion.{roundKeys}
 use Rattle.cmac.specs.Cmac.{zeros, chain, subkeys, zeroCipher}
 use Rattle.s2v.specs.S2v.{tailLength, headerResult, tagFrom}
-use Rattle.siv.specs.Answer.{pickNumber}
 use Rattle.siv.specs.Calls.{limit}
 use Rattle.siv.specs.Siv.{macKey, ctrKey}
 use Rattle.stream.specs.declared.Stream.{Stream}
@@ -55,19 +54,20 @@ start key ss stage v =
 -- whether a string is zeros alone
 unfoldable pub allZero : List ℕ → Bool
 allZero [] = true
-allZero (b ∷ l) = both (eqb b 0) (allZero l)
+allZero (b ∷ l) = eqb b 0 && allZero l
 
 -- the most that written may be: total in stage 2, else 0
 abbrev pub writtenLimit : ℕ → ℕ → ℕ
-writtenLimit stage total = pickNumber (eqb stage 2) total 0
+writtenLimit stage total = cond (eqb stage 2) total 0
 
 -- what refusal 9 judges, for a call that wants a stage: the stage, the key width, total and written within their limits, and the unused bytes of the tail zero
 unfoldable pub fits : ℕ → Stream → Bool
 fits wanted s =
-    both (eqb (s .stage) wanted)
-    (both (isWidth (s .width))
-    (both (not (ltb limit (s .total)))
-    (both (not (ltb (writtenLimit wanted (s .total)) (s .written))) (allZero (drop (tailLength (s .total)) (s .tail))))))
+    eqb (s .stage) wanted
+    && isWidth (s .width)
+    && not (ltb limit (s .total))
+    && not (ltb (writtenLimit wanted (s .total)) (s .written))
+    && allZero (drop (tailLength (s .total)) (s .tail))
 
 -- the bytes that wait for the plaintext's end: the used bytes of the tail
 abbrev pub held : Stream → List ℕ

@@ -1,12 +1,12 @@
 -- The piecewise calls on every state and input: number, length, the state after the call and the last contents of the lent output, from document 01.
 -- Assumes nothing.
 use mathlib.Core.Path.{_≡_}
-use mathlib.Core.Bool.{Bool, true, false, not}
+use mathlib.Core.Bool.{not, cond, _&&_}
 use mathlib.Core.List.{List, [], _∷_, _++_}
 use Prim.Native.Nat.{ℕ, _+_}
 use lib.Dec.{eqb, ltb}
 use lib.ListN.{length, replicate}
-use Rattle.octets.specs.Octets.{put, both, same}
+use Rattle.octets.specs.Octets.{put, same}
 use Rattle.aes.specs.Cipher.{cipher}
 use Rattle.cmac.specs.Cmac.{zeros}
 use Rattle.header.specs.Header.{strings}
@@ -35,13 +35,9 @@ success n s output = record { outcome = record { number = 0; count = n }; state 
 abbrev pub refusal : ℕ → Stream → List ℕ → Result
 refusal n s output = record { outcome = verdict n; state = s; output = output }
 
-abbrev pub pickResult : Bool → Result → Result → Result
-pickResult true a b = a
-pickResult false a b = b
-
 -- the result of a call whose rows give a number: success, or the refusal with state and output as given
 abbrev pub settle : ℕ → Result → Stream → List ℕ → Result
-settle n done s output = pickResult (eqb n 0) done (refusal n s output)
+settle n done s output = cond (eqb n 0) done (refusal n s output)
 
 -- ---- begin
 
@@ -129,7 +125,7 @@ writeStep s piece output =
     settle (first (writeRows s (length piece) (length output))) (success (length piece) (wrote s (length piece)) (put output 0 c)) s output
 
 abbrev pub closeRows : Stream → List Row
-closeRows s = row 9 (not (both (fits 2 s) (not (ltb (s .written) (s .total))))) ∷ []
+closeRows s = row 9 (not (fits 2 s && not (ltb (s .written) (s .total)))) ∷ []
 
 -- close
 unfoldable pub closeStep : Stream → Result
@@ -154,4 +150,4 @@ finishRows s output = row 9 (not (fits 3 s)) ∷ row 6 (ltb output (s .total)) �
 unfoldable pub finishStep : Stream → List ℕ → Result
 finishStep s output =
     let number = first (finishRows s (length output) ++ (row 8 (not (same (tagOfState s) (s .v))) ∷ [])) in
-    pickResult (eqb number 8) (refusal 8 ended (put output 0 (replicate (s .total) 0))) (settle number (success (s .total) ended output) s output)
+    cond (eqb number 8) (refusal 8 ended (put output 0 (replicate (s .total) 0))) (settle number (success (s .total) ended output) s output)

@@ -1,12 +1,10 @@
 // Which refusal is due, from a state and from lengths.
 ghost use mathlib.Core.Path.{_≡_};
-ghost use mathlib.Core.Bool.{not};
+ghost use mathlib.Core.Bool.{not, _&&_};
 ghost use Prim.Native.Nat.{_+_, _≤_};
 ghost use lib.Dec.{ltb};
-ghost use lib.ListN.{length, drop};
-ghost use Rattle.octets.specs.Octets.{both};
+ghost use lib.ListN.{drop};
 ghost use Rattle.siv.specs.Answer.{outcomeOf, first, verdict};
-ghost use Rattle.siv.specs.Calls.{limit};
 ghost use Rattle.stream.specs.State.{allZero, writtenLimit, fits};
 ghost use Rattle.stream.specs.Steps.{openerRows, addRows, turnRows, writeRows, feedRows, finishRows};
 use crate::Stream;
@@ -128,7 +126,7 @@ pub(crate) fn judge_write(s: Stream, n: usize, output: usize) -> Answer
 
 // Whether close is due: a state in stage 2 that has written all that was added.
 pub(crate) fn closes(s: Stream) -> bool
-    ensures { λ r. ⌜ r ≡ both (fits 2 s) (not (ltb (s .written) (s .total))) ⌝ }
+    ensures { λ r. ⌜ r ≡ (fits 2 s && not (ltb (s .written) (s .total))) ⌝ }
 {
     if !fits(2, s) {
         return false;

@@ -1,7 +1,6 @@
 -- `cmac::cmac_from` meets its contract.
 -- Assumes nothing.
 use mathlib.Core.Path.{ap, ap₂, _∙_}
-use mathlib.Core.List.{List}
 use Prim.Native.Nat.{ℕ, _*_}
 use lib.ListN.{drop}
 use Rattle.aes.specs.Cipher.{cipher}

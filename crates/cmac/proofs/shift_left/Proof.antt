@@ -1,8 +1,6 @@
 -- `cmac::shift_left` meets its contract: after i turns the first i bytes are written.
 -- Assumes nothing.
-use mathlib.Core.Path.{_≡_}
 use Prim.Native.Nat.{_-_, _≤_}
-use lib.ListN.{length}
 use native.Mathlib.Omega.{arith}
 use borrow.Author.Needs.{needs}
 use Rattle.octets.proofs.Strings.{Written, written-none}

@@ -1,11 +1,11 @@
 -- `stream::Stream::close` meets its contract.
 -- Assumes nothing.
 use mathlib.Core.Path.{refl, ap, sym, _∙_}
-use mathlib.Core.Bool.{Bool, not}
+use mathlib.Core.Bool.{Bool, not, cond}
 use borrow.Author.Needs.{needs}
 use Rattle.siv.specs.declared.Answer.the-variants.{Refused}
 use Rattle.siv.specs.declared.Refusal.the-variants.{State}
-use Rattle.siv.specs.Answer.{pickNumber, verdict}
+use Rattle.siv.specs.Answer.{verdict}
 use Rattle.siv.proofs.Laws.{refusal-number}
 use Rattle.stream.specs.Steps.{closeStep}
 use Rattle.stream.proofs.Laws.{refused, done}
@@ -22,13 +22,13 @@ returns : tie.Need-returns
 unfolding closeStep
 returns c =
     let closes = sym (c .before .before .closes .ensures) ∙ c .before .if1 .taken in
-    done _ _ _ _ (ap (λ (t : Bool). pickNumber (not t) 9 0) closes) (record { outcome = refl; state = c .ended .ensures; output = refl })
+    done _ _ _ _ (ap (λ (t : Bool). cond (not t) 9 0) closes) (record { outcome = refl; state = c .ended .ensures; output = refl })
 
 returns-2 : tie.Need-returns-2
 unfolding closeStep
 returns-2 c =
     let unclosed = sym (c .before .closes .ensures) ∙ c .if1 .left in
-    refused (Refused State) _ _ _ _ (refusal-number State) (sym (ap (λ (t : Bool). verdict (pickNumber (not t) 9 0)) unclosed))
+    refused (Refused State) _ _ _ _ (refusal-number State) (sym (ap (λ (t : Bool). verdict (cond (not t) 9 0)) unclosed))
 
 pub close-spec : {M : Type 1} → statement M
 close-spec = tie.close (tie.spec closes-requires ended-requires returns returns-2)

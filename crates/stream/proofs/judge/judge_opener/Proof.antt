@@ -1,10 +1,10 @@
 -- `stream::judge::judge_opener` meets its contract.
 -- Assumes nothing.
 use mathlib.Core.Path.{_≡_, refl, ap, sym, _∙_}
-use mathlib.Core.Bool.{Bool, not}
+use mathlib.Core.Bool.{Bool, not, cond}
 use borrow.Author.Needs.{needs}
 use borrow.Author.Tests.{eq-eqb, ne-eqb}
-use Rattle.siv.specs.Answer.{pickNumber, first, verdict}
+use Rattle.siv.specs.Answer.{first, verdict}
 use Rattle.siv.specs.Calls.{headerRows}
 use Rattle.siv.proofs.Laws.{still-due, next-due}
 use Rattle.stream.specs.Steps.{tagRows, openerRows}
@@ -35,10 +35,10 @@ by-tag c =
     next-due (c .before .judge-header .result) (headerRows (args .key-len) (args .lens .now) (args .header-len)) (tagRows (args .tag-len)) refl (c .match .keys2) (c .before .judge-header .ensures)
 
 returns-2 : tie.Need-returns-2
-returns-2 c = ap (λ (t : Bool). verdict (pickNumber (not t) 5 0)) (sym (eq-eqb _ _ (c .if1 .taken))) ∙ by-tag (c .before .before)
+returns-2 c = ap (λ (t : Bool). verdict (cond (not t) 5 0)) (sym (eq-eqb _ _ (c .if1 .taken))) ∙ by-tag (c .before .before)
 
 returns-3 : tie.Need-returns-3
-returns-3 c = ap (λ (t : Bool). verdict (pickNumber (not t) 5 0)) (sym (ne-eqb _ _ (c .if1 .left))) ∙ by-tag (c .before .before)
+returns-3 c = ap (λ (t : Bool). verdict (cond (not t) 5 0)) (sym (ne-eqb _ _ (c .if1 .left))) ∙ by-tag (c .before .before)
 
 pub judge-opener-spec : {M : Type 1} → statement M
 judge-opener-spec =
