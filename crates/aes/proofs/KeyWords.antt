@@ -14,9 +14,8 @@ use Rattle.octets.specs.Octets.{xors, put}
 use Rattle.octets.proofs.Tests.{all, agree}
 use Rattle.octets.proofs.Strings.{length-xors, put-put}
 use Rattle.field.specs.Field.{sbox, power}
-use Rattle.aes.specs.KeyExpansion.{word, temp, nextWord, schedule, keyExpansion, roundKeys}
+use Rattle.aes.specs.KeyExpansion.{Powers, word, temp, nextWord, schedule, keyExpansion, roundKeys}
 use Rattle.aes.specs.State.{bytesOfWord, WordIs}
-use Rattle.aes.specs.Tables.{Powers}
 use Rattle.aes.proofs.Words.{own, word-is, word-xor, word-bytes}
 
 -- a table that passes the test has the powers of 02

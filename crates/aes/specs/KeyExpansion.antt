@@ -1,8 +1,9 @@
 -- FIPS 197, section 5.2: the key expansion, by words over Nk.
 -- Assumes nothing.
+use mathlib.Core.Path.{_≡_}
 use mathlib.Core.Bool.{cond, _&&_}
 use mathlib.Core.List.{List, [], _∷_, _++_, map}
-use Prim.Native.Nat.{ℕ, zero, suc, _+_, _-_, _*_, _/_, _%_}
+use Prim.Native.Nat.{ℕ, zero, suc, _+_, _-_, _*_, _/_, _%_, _<_}
 use lib.Dec.{ltb, eqb}
 use lib.ListN.{getD, length, replicate}
 use Rattle.octets.specs.Octets.{xors, put}
@@ -23,6 +24,10 @@ subWord a = map sbox a
 -- 5.2, table 5, Rcon[j]
 abbrev pub rcon : ℕ → List ℕ
 rcon j = power 2 (j - 1) ∷ 0 ∷ 0 ∷ 0 ∷ []
+
+-- 5.2, table 5: a table holds the first bytes of Rcon[1] to Rcon[10]
+pub record Powers (table : List ℕ) : Type 0 where
+  pub rule : (n : ℕ) → n < 10 → getD table n 0 ≡ power 2 n
 
 -- 5.2, algorithm 2: what word i of the key schedule adds to word i - Nk, made from the word before it
 unfoldable pub temp : ℕ → ℕ → List ℕ → List ℕ

@@ -1,5 +1,5 @@
+pub mod Engine
 pub mod Cipher
 pub mod KeyExpansion
-pub mod Tables
 pub mod State
 pub mod Aes

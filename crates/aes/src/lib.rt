@@ -10,7 +10,7 @@ ghost use lib.ListN.{length};
 ghost use Rattle.aes.specs.Aes.{isWidth, expansion};
 ghost use Rattle.aes.specs.Cipher.{cipher};
 ghost use Rattle.aes.specs.KeyExpansion.{roundKeys};
-ghost use Rattle.aes.specs.Tables.{Ready};
+ghost use Rattle.aes.specs.Engine.{Ready};
 use octets::Block;
 
 // What the cipher is lent besides round keys: made once in an outermost call, and lent from there.

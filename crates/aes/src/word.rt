@@ -3,7 +3,7 @@ ghost use mathlib.Core.Path.{_≡_};
 ghost use Prim.Native.Nat.{_/_, _%_};
 ghost use Rattle.field.specs.Field.{mul, sbox};
 ghost use Rattle.aes.specs.State.{bytesOfWord, WordIs, Mixed};
-ghost use Rattle.aes.specs.Tables.{Ready};
+ghost use Rattle.aes.specs.Engine.{Ready};
 use crate::Engine;
 
 // The word of four bytes.

@@ -1,7 +1,7 @@
 // FIPS 197's worked examples: the key expansions of appendix A, the cipher of appendices B and C,
 // and keys of lengths that are refused.
 ghost use Prim.Native.Nat.{_≤_};
-ghost use Rattle.aes.specs.Tables.{Ready};
+ghost use Rattle.aes.specs.Engine.{Ready};
 use aes::Engine;
 use aes::KeyAnswer;
 use fips197::A1_KEY;

@@ -6,7 +6,7 @@ use Prim.Native.Nat.{ℕ, zero, suc, _+_, _-_, _*_, _/_, _%_, _≤_, _<_}
 use native.Mathlib.Nat.{le-of-suc-le-suc, not-suc-le-zero, add-zero, add-suc, zero-add, sub-zero, zero-sub, suc-sub-suc}
 use native.Mathlib.Numerals.{add-one}
 use native.Mathlib.Omega.{arith}
-use lib.ListN.{length, getD, take, drop, set, replicate, length-append, length-drop, length-replicate, List·getD-eq-default}
+use lib.ListN.{length, getD, take, drop, set, replicate, length-append, length-drop, List·getD-eq-default}
 use lib.Seq.{drop-drop, drop-at, drop-append-le, take-append-le, set-append-seam}
 use Rattle.octets.specs.Octets.{xors, put, part}
 use Rattle.octets.proofs.Strings.{Written, written-more, written-all, put-all}
@@ -60,10 +60,6 @@ set-pad s h =
     let left : 16 - (0 + length s) ≡ suc (15 - length s) = omega arith in
     ap (λ (l : List ℕ). set (s ++ l) (length s) 0x80) (drop-replicate (0 + length s) 16 0 ∙ ap (λ (k : ℕ). replicate k 0) left)
     ∙ set-append-seam s 0 (replicate (15 - length s) 0) 0x80
-
-pub length-pad : (s : List ℕ) → length s < 16 → length (pad s) ≡ 16
-unfolding pad
-length-pad s h = length-append s (0x80 ∷ replicate (15 - length s) 0) ∙ omega (arith, length-replicate {A = ℕ} (15 - length s) 0)
 
 -- ---- the chain
 

@@ -43,6 +43,10 @@ abbrev pub blocksBefore : ℕ → ℕ
 blocksBefore n = (n - 1) / 16
 
 module _ (E : List ℕ → List ℕ) where
+  -- 6.1, step 1: L is the cipher of the zero block
+  abbrev pub zeroCipher : List ℕ
+  zeroCipher = E zeros
+
   -- 6.2, steps 5 and 6: the chain from c over the first n blocks of s
   unfoldable pub chain : List ℕ → List ℕ → ℕ → List ℕ
   chain c s zero = c
@@ -54,10 +58,6 @@ module _ (E : List ℕ → List ℕ) where
       let n = blocksBefore (length s) in
       E (xors (chain c s n) (lastBlock k (drop (16 * n) s)))
 
-  -- 6.1, step 1: L is the cipher of the zero block
-  abbrev pub zeroCipher : List ℕ
-  zeroCipher = E zeros
-
-  -- 6.2: CMAC of a string, with a 16-byte tag
-  unfoldable pub cmac : List ℕ → List ℕ
-  cmac s = cmacFrom (subkeys zeroCipher) zeros s
+  -- 6.2: CMAC of a string under the subkeys, with a 16-byte tag
+  abbrev pub cmac : Subkeys → List ℕ → List ℕ
+  cmac k s = cmacFrom k zeros s

@@ -3,7 +3,7 @@ ghost use mathlib.Core.Path.{_≡_};
 ghost use Prim.Native.Nat.{_+_, _*_, _/_, _%_, _≤_, _<_};
 ghost use lib.ListN.{length};
 ghost use Rattle.aes.specs.Cipher.{cipher};
-ghost use Rattle.aes.specs.Tables.{Ready};
+ghost use Rattle.aes.specs.Engine.{Ready};
 ghost use Rattle.octets.specs.Octets.{xors, part};
 ghost use Rattle.cmac.specs.Cmac.{shifted, double, subkeys, pad, lastBlock, chain, cmacFrom, blocksBefore, zeroCipher};
 use aes::Engine;

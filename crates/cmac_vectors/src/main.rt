@@ -1,6 +1,6 @@
 // SP 800-38B's examples of CMAC with AES: the subkeys, and the tags of 0, 16, 40 and 64 bytes, for the three widths.
 ghost use Prim.Native.Nat.{_≤_};
-ghost use Rattle.aes.specs.Tables.{Ready};
+ghost use Rattle.aes.specs.Engine.{Ready};
 use aes::Engine;
 use aes::RoundKeys;
 use cmac::Subkeys;

@@ -3,14 +3,14 @@
 use mathlib.Core.Path.{_≡_, refl, sym, ap, ap₂, _∙_}
 use mathlib.Core.List.{List, [], _∷_, _++_}
 use Prim.Native.Nat.{ℕ, zero, suc, _+_, _*_, _/_, _%_, _^_, _≤_, _<_}
-use native.Mathlib.Nat.{zero-add, suc-add, add-assoc, add-comm, zero-mul, add-mul, mul-assoc, pow-suc, pow-succ', one-le-pow, mod-lt, mod-one, div-div-eq-div-mul}
+use native.Mathlib.Nat.{zero-add, suc-add, add-assoc, add-comm, zero-mul, add-mul, mul-assoc, pow-suc, one-le-pow, mod-lt, div-div-eq-div-mul}
 use native.Mathlib.Omega.{arith}
 use lib.Arith.{digits-div, digits-mod, mod-mul}
-use lib.ListN.{length, take, drop, getD, length-append, length-drop, take-append-drop}
+use lib.ListN.{length, take, drop, length-append, length-drop, take-append-drop}
 use lib.Pow.{pow-add}
-use lib.Seq.{drop-cons, take-all}
+use lib.Seq.{take-all}
 use Rattle.octets.specs.Octets.{part}
-use Rattle.octets.proofs.Strings.{entries, length-part}
+use Rattle.octets.proofs.Strings.{entries, entries-all, length-part}
 use Rattle.ctr.specs.Counter.{number, bytesOfNumber, plus}
 
 -- ---- powers of 256
@@ -68,23 +68,9 @@ number-append (x ∷ a) b =
     ap₂ (λ (p n : ℕ). x * p + n) (ap (λ (n : ℕ). 256 ^ n) (length-append a b) ∙ pow-add 256 (length a) (length b)) (number-append a b)
     ∙ omega (arith, mul-assoc x A B, add-mul (x * A) (number a) B)
 
-length-bytes : (n x : ℕ) → length (bytesOfNumber n x) ≡ n
-length-bytes zero x = refl
-length-bytes (suc n) x = ap suc (length-bytes n x)
-
--- the n bytes of x stand for x modulo 256^n
-pub number-bytes : (n x : ℕ) → number (bytesOfNumber n x) ≡ x % 256 ^ n
-number-bytes zero x = sym (mod-one x)
-number-bytes (suc n) x =
-    ap₂ (λ (k m : ℕ). x / 256 ^ n % 256 * 256 ^ k + m) (length-bytes n x) (number-bytes n x)
-    ∙ sym (mod-mul x (omega arith) (pow-pos n))
-    ∙ ap (λ (m : ℕ). x % m) (sym (pow-succ' 256 n))
-
--- n bytes of a string from a place on are the list of them
-pub part-entries : (n at : ℕ) (l : List ℕ) → at + n ≤ length l → part l at n ≡ entries n at l
-part-entries zero at l h = refl
-part-entries (suc n) at l h =
-    ap (take (suc n)) (drop-cons l at 0 (omega arith)) ∙ ap (λ (t : List ℕ). getD l at 0 ∷ t) (part-entries n (suc at) l (omega arith))
+-- a string of eight bytes is the list of them
+pub eight-entries : (s : List ℕ) → length s ≡ 8 → entries 8 0 s ≡ s
+eight-entries s h = ap (λ (n : ℕ). entries n 0 s) (sym h) ∙ entries-all s
 
 -- a string of 16 bytes by its halves
 number-halves : (q : List ℕ) → length q ≡ 16 → number q ≡ number (part q 0 8) * 2 ^ 64 + number (part q 8 8)

@@ -7,7 +7,7 @@ use lib.Dec.{ltb}
 use lib.ListN.{length, take, drop}
 use Rattle.octets.specs.Octets.{xors}
 use Rattle.cmac.specs.declared.Subkeys.{Subkeys}
-use Rattle.cmac.specs.Cmac.{zeros, double, pad, subkeys, cmacFrom, zeroCipher}
+use Rattle.cmac.specs.Cmac.{zeros, double, pad, subkeys, cmacFrom, cmac, zeroCipher}
 
 -- RFC 5297 2.1, xorend: d xored onto the last 16 bytes of p
 unfoldable pub xorend : List ℕ → List ℕ → List ℕ
@@ -25,11 +25,11 @@ module _ (E : List ℕ → List ℕ) where
   -- 2.4: D is doubled for each string and its CMAC is xored in
   unfoldable pub absorbStrings : Subkeys → List ℕ → List (List ℕ) → List ℕ
   absorbStrings k d [] = d
-  absorbStrings k d (s ∷ ss) = absorbStrings k (xors (double d) (cmacFrom E k zeros s)) ss
+  absorbStrings k d (s ∷ ss) = absorbStrings k (xors (double d) (cmac E k s)) ss
 
   -- 2.4: D over the header strings, from the CMAC of the zero block
   unfoldable pub headerResult : Subkeys → List (List ℕ) → List ℕ
-  headerResult k ss = absorbStrings k (cmacFrom E k zeros zeros) ss
+  headerResult k ss = absorbStrings k (cmac E k zeros) ss
 
   -- 2.4: V, where c is the chain over the plaintext's blocks before p
   unfoldable pub tagFrom : Subkeys → List ℕ → List ℕ → List ℕ → List ℕ

@@ -3,7 +3,7 @@ ghost use mathlib.Core.Path.{_≡_};
 ghost use Prim.Native.Nat.{_+_, _≤_, _<_};
 ghost use lib.ListN.{length};
 ghost use Rattle.aes.specs.Cipher.{cipher};
-ghost use Rattle.aes.specs.Tables.{Ready};
+ghost use Rattle.aes.specs.Engine.{Ready};
 ghost use Rattle.octets.specs.Octets.{xors, part};
 ghost use Rattle.cmac.specs.Cmac.{cmacFrom, zeros, double, pad};
 ghost use Rattle.header.specs.Header.{total, strings};
@@ -145,14 +145,7 @@ pub fn tag_from(
 }
 
 // V from D and the plaintext.
-pub fn make_tag(
-    engine: &Engine,
-    width: usize,
-    keys: &RoundKeys,
-    k: Subkeys,
-    d: Block,
-    p: &[u8],
-) -> Block
+pub fn tag(engine: &Engine, width: usize, keys: &RoundKeys, k: Subkeys, d: Block, p: &[u8]) -> Block
     requires { ⌜ Ready (now engine) × (width ≤ 32) ⌝ }
     ensures { λ r. ⌜ r ≡ tag (cipher width (now (keys .entry))) k d (now (p .entry)) ⌝ }
 {

@@ -1,7 +1,7 @@
 // RFC 5297's appendix A, with every value that it prints on the way.
 ghost use Prim.Native.Nat.{_≤_, _<_};
 ghost use lib.ListN.{length};
-ghost use Rattle.aes.specs.Tables.{Ready};
+ghost use Rattle.aes.specs.Engine.{Ready};
 use aes::Engine;
 use aes::RoundKeys;
 use cmac::Subkeys;
@@ -13,15 +13,6 @@ use rfc5297::A2_HEADER;
 use rfc5297::A2_KEY;
 use rfc5297::A2_LENS;
 use rfc5297::A2_PLAINTEXT;
-
-// The round keys of a key.
-fn round_keys(engine: &Engine, key: &[u8]) -> RoundKeys
-    requires { ⌜ Ready (now engine) ⌝ }
-{
-    let e = aes::expand(engine, key);
-    let keys = e.keys;
-    keys
-}
 
 // Prints the CMAC of the zero block.
 fn start(engine: &Engine, keys: &RoundKeys, k: Subkeys) -> Block
@@ -100,11 +91,12 @@ fn a1_header(engine: &Engine, keys: &RoundKeys, k: Subkeys) -> Block
 fn a1_tag(engine: &Engine) -> Block
     requires { ⌜ Ready (now engine) ⌝ }
 {
-    let keys = round_keys(engine, &A1_KEY[0..16]);
+    let e = aes::expand(engine, &A1_KEY[0..16]);
+    let keys = e.keys;
     let k = cmac::make_subkeys(cmac::zero_cipher(engine, 16, &keys));
     let d = a1_header(engine, &keys, k);
     short_end(d, &A1_PLAINTEXT);
-    let v = s2v::make_tag(engine, 16, &keys, k, d, &A1_PLAINTEXT);
+    let v = s2v::tag(engine, 16, &keys, k, d, &A1_PLAINTEXT);
     printer::line(b"    CMAC(final)", &v);
     v
 }
@@ -114,7 +106,8 @@ fn a1(engine: &Engine)
 {
     printer::text(b"A.1\n");
     let v = a1_tag(engine);
-    let keys = round_keys(engine, &A1_KEY[16..32]);
+    let e = aes::expand(engine, &A1_KEY[16..32]);
+    let keys = e.keys;
     let q = ctr::clear(v);
     counter(engine, &keys, q, 0);
     ciphertext(engine, &keys, v, &A1_PLAINTEXT);
@@ -135,7 +128,7 @@ fn a2_tag(engine: &Engine, keys: &RoundKeys, k: Subkeys) -> Block
     a2_header(engine, keys, k);
     let d = s2v::make_header_result(engine, 16, keys, k, &A2_HEADER, &A2_LENS);
     long_end(d, &A2_PLAINTEXT);
-    let v = s2v::make_tag(engine, 16, keys, k, d, &A2_PLAINTEXT);
+    let v = s2v::tag(engine, 16, keys, k, d, &A2_PLAINTEXT);
     printer::line(b"    CMAC(final)", &v);
     v
 }
@@ -143,7 +136,8 @@ fn a2_tag(engine: &Engine, keys: &RoundKeys, k: Subkeys) -> Block
 fn a2_text(engine: &Engine, v: Block)
     requires { ⌜ Ready (now engine) ⌝ }
 {
-    let keys = round_keys(engine, &A2_KEY[16..32]);
+    let e = aes::expand(engine, &A2_KEY[16..32]);
+    let keys = e.keys;
     let q = ctr::clear(v);
     counter(engine, &keys, q, 0);
     counter(engine, &keys, q, 1);
@@ -155,7 +149,8 @@ fn a2(engine: &Engine)
     requires { ⌜ Ready (now engine) ⌝ }
 {
     printer::text(b"A.2\n");
-    let keys = round_keys(engine, &A2_KEY[0..16]);
+    let e = aes::expand(engine, &A2_KEY[0..16]);
+    let keys = e.keys;
     let k = cmac::make_subkeys(cmac::zero_cipher(engine, 16, &keys));
     let v = a2_tag(engine, &keys, k);
     a2_text(engine, v);

@@ -5,7 +5,7 @@ ghost use Prim.Native.Nat.{_+_, _≤_};
 ghost use lib.ListN.{length};
 ghost use Rattle.octets.specs.Octets.{put};
 ghost use Rattle.aes.specs.Cipher.{cipher};
-ghost use Rattle.aes.specs.Tables.{Ready};
+ghost use Rattle.aes.specs.Engine.{Ready};
 ghost use Rattle.header.specs.Header.{total, strings};
 ghost use Rattle.s2v.specs.S2v.{s2v};
 ghost use Rattle.siv.specs.Calls.{isKeyLength};
@@ -28,11 +28,11 @@ fn tag_under(
 {
     let k = cmac::make_subkeys(cmac::zero_cipher(engine, width, keys));
     let d = s2v::make_header_result(engine, width, keys, k, header, lens);
-    s2v::make_tag(engine, width, keys, k, d, p)
+    s2v::tag(engine, width, keys, k, d, p)
 }
 
 // The tag of a header list and a plaintext.
-fn make_tag(engine: &Engine, key: &[u8], header: &[u8], lens: &[u32], p: &[u8]) -> Block
+fn tag_of(engine: &Engine, key: &[u8], header: &[u8], lens: &[u32], p: &[u8]) -> Block
     requires { ⌜ Ready (now engine) × (isKeyLength (length (now key)) ≡ true) × (total (now lens) ≤ length (now header)) ⌝ }
     ensures { λ r. ⌜ r ≡ tagOf (now (key .entry)) (strings (now (header .entry)) (now (lens .entry))) (now (p .entry)) ⌝ }
 {
@@ -63,7 +63,7 @@ pub(crate) fn seal_admitted(
     ensures { λ _. ⌜ now (output .exit) ≡ put (now (output .entry)) 0 (sealed (now (key .entry)) (strings (now (header .entry)) (now (lens .entry))) (now (input .entry))) ⌝ }
 {
     let engine = aes::engine();
-    let v = make_tag(&engine, key, header, lens, input);
+    let v = tag_of(&engine, key, header, lens, input);
     octets::store(output, 0, v);
     stream(&engine, key, v, input, output, 16);
 }
@@ -83,6 +83,6 @@ pub(crate) fn open_admitted(
     let n = sealed.len() - 16;
     let v = octets::load(sealed, 0);
     stream(&engine, key, v, &sealed[16..], scratch, 0);
-    let t = make_tag(&engine, key, header, lens, &scratch[0..n]);
+    let t = tag_of(&engine, key, header, lens, &scratch[0..n]);
     octets::same_block(t, v)
 }

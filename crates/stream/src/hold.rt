@@ -5,7 +5,7 @@ ghost use Prim.Native.Nat.{_+_, _*_, _≤_, _<_};
 ghost use lib.ListN.{length, drop};
 ghost use Rattle.octets.specs.Octets.{xors, put, part};
 ghost use Rattle.aes.specs.Cipher.{cipher};
-ghost use Rattle.aes.specs.Tables.{Ready};
+ghost use Rattle.aes.specs.Engine.{Ready};
 ghost use Rattle.cmac.specs.Cmac.{chain};
 ghost use Rattle.siv.specs.Calls.{limit};
 ghost use Rattle.stream.specs.State.{passedBlocks, tailOf, added};

@@ -113,7 +113,7 @@ impl Stream {
                 state: self,
             };
         }
-        let v = work::make_tag(self);
+        let v = work::tag_of_state(self);
         octets::store(output, 0, v);
         self.stage = 2;
         self.v = v;
@@ -192,7 +192,7 @@ impl Stream {
         }
         let total = self.total;
         let v = self.v;
-        if octets::same_block(work::make_tag(self), v) {
+        if octets::same_block(work::tag_of_state(self), v) {
             return Step {
                 answer: Answer::Done(total),
                 state: work::ended(),

@@ -64,7 +64,7 @@ pub(crate) fn start(key: &[u8], header: &[u8], lens: &[u32], stage: u8, v: Block
 }
 
 // V of all that was added.
-pub(crate) fn make_tag(s: Stream) -> Block
+pub(crate) fn tag_of_state(s: Stream) -> Block
     requires { ⌜ s .width ≤ 32 ⌝ }
     ensures { λ r. ⌜ r ≡ tagOfState s ⌝ }
 {

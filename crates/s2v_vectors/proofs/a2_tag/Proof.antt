@@ -25,11 +25,11 @@ slice-aggregate-long-end c = search needs
 long-end-requires : tie.Need-long-end-requires
 long-end-requires c κs = search needs
 
-slice-aggregate-make-tag : tie.Need-slice-aggregate-make-tag
-slice-aggregate-make-tag c = search needs
+slice-aggregate-tag : tie.Need-slice-aggregate-tag
+slice-aggregate-tag c = search needs
 
-make-tag-requires : tie.Need-make-tag-requires
-make-tag-requires c κs = search needs
+tag-requires : tie.Need-tag-requires
+tag-requires c κs = search needs
 
 slice-aggregate-line : tie.Need-slice-aggregate-line
 slice-aggregate-line c = search needs
@@ -53,8 +53,8 @@ a2-tag-spec =
     make-header-result-requires
     slice-aggregate-long-end
     long-end-requires
-    slice-aggregate-make-tag
-    make-tag-requires
+    slice-aggregate-tag
+    tag-requires
     slice-aggregate-line
     slice-aggregate-line-2
     line-requires

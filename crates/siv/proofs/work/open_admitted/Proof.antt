@@ -32,17 +32,17 @@ part-stream-end c = search needs
 stream-requires : tie.Need-stream-requires
 stream-requires c κs = search needs
 
-sub-make-tag : tie.Need-sub-make-tag
-sub-make-tag c = search needs
+sub-tag-of : tie.Need-sub-tag-of
+sub-tag-of c = search needs
 
-part-make-tag-start : tie.Need-part-make-tag-start
-part-make-tag-start c = search needs
+part-tag-of-start : tie.Need-part-tag-of-start
+part-tag-of-start c = search needs
 
-part-make-tag-end : tie.Need-part-make-tag-end
-part-make-tag-end c = search needs
+part-tag-of-end : tie.Need-part-tag-of-end
+part-tag-of-end c = search needs
 
-make-tag-requires : tie.Need-make-tag-requires
-make-tag-requires c κs = search needs
+tag-of-requires : tie.Need-tag-of-requires
+tag-of-requires c κs = search needs
 
 same-block-requires : tie.Need-same-block-requires
 same-block-requires c κs = search needs
@@ -61,7 +61,7 @@ returns c =
     let ss = strings (args .header .now) (args .lens .now) in
     let loaded = c .before .before .before .before .before .before .before .before .before .before .before .load .ensures in
     let text = c .before .before .before .before .before .before .before .stream .ensures ∙ ap (put scratch 0) (ap₂ (streamed key) loaded (part-rest y 16)) in
-    let tagged = c .before .make-tag .ensures ∙ ap (tagOf key ss) (text-read key y scratch text (omega arith)) in
+    let tagged = c .before .tag-of .ensures ∙ ap (tagOf key ss) (text-read key y scratch text (omega arith)) in
     (c .same-block .ensures ∙ ap₂ same tagged loaded, text)
 
 pub open-admitted-spec : {M : Type 1} → statement M
@@ -75,10 +75,10 @@ open-admitted-spec =
     part-stream-start
     part-stream-end
     stream-requires
-    sub-make-tag
-    part-make-tag-start
-    part-make-tag-end
-    make-tag-requires
+    sub-tag-of
+    part-tag-of-start
+    part-tag-of-end
+    tag-of-requires
     same-block-requires
     same-length
     returns)

@@ -15,8 +15,8 @@ use Rattle.siv.proofs.work.seal_admitted.Tie as tie
 engine-requires : tie.Need-engine-requires
 engine-requires c κs = search needs
 
-make-tag-requires : tie.Need-make-tag-requires
-make-tag-requires c κs = search needs
+tag-of-requires : tie.Need-tag-of-requires
+tag-of-requires c κs = search needs
 
 store-requires : tie.Need-store-requires
 store-requires c κs = search needs
@@ -32,16 +32,16 @@ unfolding sealed
 returns c =
     let args = c .before .before .before .before .before .before .before .before .before .before .before .before .before .before .before .before .before .args in
     let tagged = c .before .before .before .before .before .before .before .before .before in
-    let v = tagged .make-tag .result in
+    let v = tagged .tag-of .result in
     let long : length v ≡ 16 = search needs in
     let place : 16 ≡ 0 + length v = omega arith in
     let out = args .output .now in
     c .before .before .stream .ensures
     ∙ ap₂ (λ (l : List ℕ) (n : ℕ). put l n (streamed (args .key .now) v (args .input .now))) (c .before .before .before .before .before .before .before .store .ensures) place
     ∙ put-put out 0 v (streamed (args .key .now) v (args .input .now)) (omega arith)
-    ∙ ap (λ (t : List ℕ). put out 0 (t ++ streamed (args .key .now) t (args .input .now))) (tagged .make-tag .ensures)
+    ∙ ap (λ (t : List ℕ). put out 0 (t ++ streamed (args .key .now) t (args .input .now))) (tagged .tag-of .ensures)
 
 pub seal-admitted-spec : {M : Type 1} → statement M
 seal-admitted-spec =
     tie.close
-    (tie.spec engine-requires make-tag-requires store-requires stream-requires same-length returns)
+    (tie.spec engine-requires tag-of-requires store-requires stream-requires same-length returns)

@@ -21,8 +21,8 @@ make-subkeys-requires c κs = search needs
 make-header-result-requires : tie.Need-make-header-result-requires
 make-header-result-requires c κs = search needs
 
-make-tag-requires : tie.Need-make-tag-requires
-make-tag-requires c κs = search needs
+tag-requires : tie.Need-tag-requires
+tag-requires c κs = search needs
 
 returns : tie.Need-returns
 unfolding s2v
@@ -31,7 +31,7 @@ returns c =
     let E = cipher (args .width) (args .keys .now) in
     let ss = strings (args .header .now) (args .lens .now) in
     let keys = c .before .before .make-subkeys .ensures ∙ ap subkeys (c .before .before .before .zero-cipher .ensures) in
-    c .make-tag .ensures
+    c .tag .ensures
     ∙ ap₂ (λ (k : Subkeys) (d : List ℕ). tag E k d (args .p .now)) keys (c .before .make-header-result .ensures ∙ ap (λ (k : Subkeys). headerResult E k ss) keys)
 
 pub tag-under-spec : {M : Type 1} → statement M
@@ -41,5 +41,5 @@ tag-under-spec =
     zero-cipher-requires
     make-subkeys-requires
     make-header-result-requires
-    make-tag-requires
+    tag-requires
     returns)

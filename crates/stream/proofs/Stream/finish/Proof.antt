@@ -29,8 +29,8 @@ returns c = finish-refused _ _ (c .before .before .judge-finish .result) (told-r
 enum-told-2 : tie.Need-enum-told-2
 enum-told-2 c = search needs
 
-make-tag-requires : tie.Need-make-tag-requires
-make-tag-requires c κs = finish-admits _ _ (none (c .before .before)) .0 .width
+tag-of-state-requires : tie.Need-tag-of-state-requires
+tag-of-state-requires c κs = finish-admits _ _ (none (c .before .before)) .0 .width
 
 same-block-requires : tie.Need-same-block-requires
 same-block-requires c κs = search needs
@@ -41,7 +41,7 @@ ended-requires c κs = search needs
 returns-2 : tie.Need-returns-2
 returns-2 c =
     let s = c .before .before .before .before .before .before .before .before .before .args .self in
-    let agrees = sym (ap (λ (t : List ℕ). same t (s .v)) (c .before .before .before .make-tag .ensures)) ∙ sym (c .before .before .same-block .ensures) ∙ c .before .if1 .taken in
+    let agrees = sym (ap (λ (t : List ℕ). same t (s .v)) (c .before .before .before .tag-of-state .ensures)) ∙ sym (c .before .before .same-block .ensures) ∙ c .before .if1 .taken in
     finish-done s _ (none (c .before .before .before .before .before .before)) (c .ended .ensures) agrees
 
 zero-at-requires : tie.Need-zero-at-requires
@@ -56,7 +56,7 @@ same-length c = search needs
 returns-3 : tie.Need-returns-3
 returns-3 c =
     let s = c .before .before .before .before .before .before .before .before .before .before .before .before .before .args .self in
-    let differs = sym (ap (λ (t : List ℕ). same t (s .v)) (c .before .before .before .before .before .before .before .make-tag .ensures)) ∙ sym (c .before .before .before .before .before .before .same-block .ensures) ∙ c .before .before .before .before .before .if1 .left in
+    let differs = sym (ap (λ (t : List ℕ). same t (s .v)) (c .before .before .before .before .before .before .before .tag-of-state .ensures)) ∙ sym (c .before .before .before .before .before .before .same-block .ensures) ∙ c .before .before .before .before .before .if1 .left in
     finish-forged s _ (none (c .before .before .before .before .before .before .before .before .before .before)) (c .ended2 .ensures) _ differs (c .before .before .before .zero-at .ensures)
 
 pub finish-spec : {M : Type 1} → statement M
@@ -67,7 +67,7 @@ finish-spec =
     enum-told
     returns
     enum-told-2
-    make-tag-requires
+    tag-of-state-requires
     same-block-requires
     ended-requires
     returns-2

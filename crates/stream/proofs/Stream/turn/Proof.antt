@@ -27,8 +27,8 @@ returns c = refused (c .before .before .judge-turn .result) _ _ _ _ (told-refuse
 enum-told-2 : tie.Need-enum-told-2
 enum-told-2 c = search needs
 
-make-tag-requires : tie.Need-make-tag-requires
-make-tag-requires c κs = turn-admits (c .before .before .before .before .args .self) (length (c .before .before .before .before .args .output .now)) (none (c .before)) .0 .width
+tag-of-state-requires : tie.Need-tag-of-state-requires
+tag-of-state-requires c κs = turn-admits (c .before .before .before .before .args .self) (length (c .before .before .before .before .args .output .now)) (none (c .before)) .0 .width
 
 store-requires : tie.Need-store-requires
 store-requires c κs = turn-admits _ _ (none (c .before .before .before)) .1
@@ -40,7 +40,7 @@ returns-2 : tie.Need-returns-2
 unfolding turnStep
 returns-2 c =
     let args = c .before .before .before .before .before .before .before .before .before .args in
-    let tag = c .before .before .before .before .make-tag .ensures in
+    let tag = c .before .before .before .before .tag-of-state .ensures in
     done _ _ _ _ (none (c .before .before .before .before .before .before))
     (record { outcome = refl; state = ap (turned (args .self)) tag; output = c .before .before .store .ensures ∙ ap (put (args .output .now) 0) tag })
 
@@ -52,7 +52,7 @@ turn-spec =
     enum-told
     returns
     enum-told-2
-    make-tag-requires
+    tag-of-state-requires
     store-requires
     same-length
     returns-2)

@@ -1,4 +1,4 @@
--- `s2v::make_tag` meets its contract.
+-- `s2v::tag` meets its contract.
 -- Assumes nothing.
 use borrow.Author.Needs.{needs}
 use mathlib.Core.Path.{_≡_, ap, ap₂, sym, _∙_}
@@ -9,8 +9,8 @@ use Rattle.aes.specs.Cipher.{cipher}
 use Rattle.octets.proofs.Strings.{part-rest}
 use Rattle.s2v.specs.S2v.{tailLength, tagFrom}
 use Rattle.s2v.proofs.Laws.{Tail, tail, tag-tail}
-use Rattle.s2v.proofs.make_tag.Statement.{statement}
-use Rattle.s2v.proofs.make_tag.Tie as tie
+use Rattle.s2v.proofs.tag.Statement.{statement}
+use Rattle.s2v.proofs.tag.Tie as tie
 
 tail-len-requires : tie.Need-tail-len-requires
 tail-len-requires c κs = search needs
@@ -47,8 +47,8 @@ returns c =
     ∙ ap₂ (tagFrom E (args .k) (args .d)) (c .before .before .chain-blocks .ensures) (part-rest p at)
     ∙ sym (tag-tail E (args .k) (args .d) p at place)
 
-pub make-tag-spec : {M : Type 1} → statement M
-make-tag-spec =
+pub tag-spec : {M : Type 1} → statement M
+tag-spec =
     tie.close
     (tie.spec
     tail-len-requires

@@ -1,4 +1,4 @@
--- `stream::work::make_tag` meets its contract.
+-- `stream::work::tag_of_state` meets its contract.
 -- Assumes nothing.
 use mathlib.Core.Path.{ap₂, _∙_, _≡_}
 use Prim.Native.Nat.{ℕ, _-_}
@@ -10,8 +10,8 @@ use Rattle.cmac.specs.declared.Subkeys.{Subkeys}
 use Rattle.s2v.specs.S2v.{tailLength, tagFrom}
 use Rattle.stream.specs.State.{tagOfState}
 use Rattle.stream.proofs.Laws.{cut}
-use Rattle.stream.proofs.work.make_tag.Statement.{statement}
-use Rattle.stream.proofs.work.make_tag.Tie as tie
+use Rattle.stream.proofs.work.tag_of_state.Statement.{statement}
+use Rattle.stream.proofs.work.tag_of_state.Tie as tie
 
 tail-length : (start : tie.Start) → length (start .args .s .tail) ≡ 31
 tail-length start = search needs
@@ -49,8 +49,8 @@ returns c =
     c .tag-from .ensures
     ∙ ap₂ (λ (k : Subkeys) (n : ℕ). tagFrom (cipher (s .width) (s .«mac_keys»)) k (s .d) (s .chain) (take n (s .tail))) (c .before .before .before .before .before .make-subkeys .ensures) used
 
-pub make-tag-spec : {M : Type 1} → statement M
-make-tag-spec =
+pub tag-of-state-spec : {M : Type 1} → statement M
+tag-of-state-spec =
     tie.close
     (tie.spec
     engine-requires

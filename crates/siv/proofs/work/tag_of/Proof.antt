@@ -1,4 +1,4 @@
--- `siv::work::make_tag` meets its contract.
+-- `siv::work::tag_of` meets its contract.
 -- Assumes nothing.
 use mathlib.Core.Path.{_≡_, ap, sym, _∙_}
 use mathlib.Core.List.{List}
@@ -14,8 +14,8 @@ use Rattle.header.specs.Header.{strings}
 use Rattle.s2v.specs.S2v.{s2v}
 use Rattle.siv.specs.Siv.{macKey, tagOf}
 use Rattle.siv.proofs.Laws.{KeyHalves, halves, aes-cipher}
-use Rattle.siv.proofs.work.make_tag.Statement.{statement}
-use Rattle.siv.proofs.work.make_tag.Tie as tie
+use Rattle.siv.proofs.work.tag_of.Statement.{statement}
+use Rattle.siv.proofs.work.tag_of.Tie as tie
 
 sub-round-keys : tie.Need-sub-round-keys
 sub-round-keys c = search needs
@@ -51,8 +51,8 @@ returns c =
     let keys = c .before .before .round-keys .ensures ∙ ap (λ (n : ℕ). roundKeys (take n key)) (sub-zero (length key / 2)) in
     c .tag-under .ensures ∙ ap (λ (E : List ℕ → List ℕ). s2v E ss (start .args .p .now)) (aes-cipher (macKey key) long keys)
 
-pub make-tag-spec : {M : Type 1} → statement M
-make-tag-spec =
+pub tag-of-spec : {M : Type 1} → statement M
+tag-of-spec =
     tie.close
     (tie.spec
     sub-round-keys
