@@ -8,9 +8,9 @@ use Rattle.s2v.specs.S2v.{xorend, tailLength}
 use Rattle.ctr.specs.Counter.{plus}
 use Rattle.demands.specs.Cases.{Cases}
 
-pub cases : Cases
+pub twelve-cases : Cases
 unfolding xors xtimes products mul squares inverse bit fromBits affine sbox shifted double pad xorend tailLength plus
-cases =
+twelve-cases =
     record {
       case1 = refl;
       case2 = refl;

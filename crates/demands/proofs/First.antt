@@ -10,18 +10,17 @@ use lib.ListN.{length, getD, replicate}
 use borrow.Author.Tests.{eqb-true, eq-eqb, ne-eqb}
 use Rattle.octets.specs.Octets.{put}
 use Rattle.siv.specs.declared.Answer.{Answer}
-use Rattle.siv.specs.declared.Answer.the-variants.{Done, Refused}
+use Rattle.siv.specs.declared.Answer.the-variants.{Ok, Refused}
 use Rattle.siv.specs.declared.Refusal.{Refusal}
 use Rattle.siv.specs.declared.Refusal.the-variants.{KeyLength, HeaderCount, HeaderLengths, TooLong, SealedLength, OutputShort, ScratchShort, Forged, State, EmptyNonce}
 use Rattle.siv.specs.Answer.{Outcome, Row, row, first, verdict, numberOf, outcomeOf}
-use Rattle.siv.specs.Calls.{Result, isKeyLength, sealNumber, sealCall, openNumber, openCall}
+use Rattle.siv.specs.Calls.{CallResult, isKeyLength, sealNumber, sealCall, openNumber, openCall}
 use Rattle.siv.proofs.Laws.{lacks, first-not, refusal-number}
 use Rattle.stream.specs.declared.Stream.{Stream}
 use Rattle.stream.specs.State.{ended}
-use Rattle.stream.specs.Steps as steps
-use Rattle.stream.specs.Steps.{beginSealer, beginOpener, addStep, turnStep, writeStep, closeStep, feedStep, finishStep}
-use Rattle.kinphlor.specs.Door.{emptyNonce, door}
-use Rattle.demands.specs.First.{order, keeps, FirstDue, none, here, later, sealTable, openTable, FirstSeal, FirstOpen, atDoor, FirstDoor, FirstStep, finishTable, FirstFinish, First}
+use Rattle.stream.specs.Steps.{StepResult, doneStep, refusedStep, settle, beginSealer, beginOpener, addStep, turnStep, writeStep, closeStep, feedStep, finishStep}
+use Rattle.kinphlor.specs.Interface.{emptyNonce, fromC}
+use Rattle.demands.specs.First.{order, keeps, FirstDue, none, here, later, sealTable, openTable, FirstSeal, FirstOpen, rowsFromC, FirstFromC, FirstStep, finishTable, FirstFinish, First}
 
 -- `first` takes the first row that is due
 first-due : (rs : List Row) → FirstDue rs (first rs)
@@ -69,41 +68,41 @@ module _ (key bytes lens input output scratch : List ℕ) where
 
 -- ---- the C interface
 
-module _ (rest : List Row) (nonce : ℕ) (key output scratch : List ℕ) (call : Result) where
+module _ (rest : List Row) (nonce : ℕ) (key output scratch : List ℕ) (call : CallResult) where
   abbrev table : List Row
   table = row 1 (not (isKeyLength (length key))) ∷ rest
 
-  at-door : keeps order (atDoor nonce table) ≡ true → lacks 10 table ≡ true → call .outcome .number ≡ first table → FirstDoor table nonce key output scratch call
-  unfolding door emptyNonce
-  at-door k l e = go (isKeyLength (length key)) refl (eqb nonce 0) refl
+  from-c : keeps order (rowsFromC nonce table) ≡ true → lacks 10 table ≡ true → call .outcome .number ≡ first table → FirstFromC table nonce key output scratch call
+  unfolding fromC emptyNonce
+  from-c k l e = go (isKeyLength (length key)) refl (eqb nonce 0) refl
     where
       not-ten : call .outcome .number ≡ 10 → ⊥
       not-ten z = first-not 10 table l (λ p. omega (arith, p)) (sym e ∙ z)
 
-      ten : Result
+      ten : CallResult
       ten = record { outcome = verdict 10; output = output; scratch = scratch }
 
-      by-call : (n : ℕ) → (isKeyLength (length key) && eqb nonce 0) ≡ false → first table ≡ n → FirstDue (atDoor nonce table) n → FirstDoor table nonce key output scratch call
+      by-call : (n : ℕ) → (isKeyLength (length key) && eqb nonce 0) ≡ false → first table ≡ n → FirstDue (rowsFromC nonce table) n → FirstFromC table nonce key output scratch call
       by-call n off number due =
-          let same : door nonce key output scratch call ≡ call = ap (λ (t : Bool). cond t ten call) off in
-          let same-number : door nonce key output scratch call .outcome .number ≡ call .outcome .number = ap (λ (r : Result). r .outcome .number) same in
+          let same : fromC nonce key output scratch call ≡ call = ap (λ (t : Bool). cond t ten call) off in
+          let same-number : fromC nonce key output scratch call .outcome .number ≡ call .outcome .number = ap (λ (r : CallResult). r .outcome .number) same in
           record {
             ordered = k;
-            first = subst (FirstDue (atDoor nonce table)) (sym (same-number ∙ e ∙ number)) due;
+            first = subst (FirstDue (rowsFromC nonce table)) (sym (same-number ∙ e ∙ number)) due;
             empty = λ z. absurd (not-ten (sym same-number ∙ z));
             otherwise = λ z. same;
           }
 
-      go : (a : Bool) → isKeyLength (length key) ≡ a → (b : Bool) → eqb nonce 0 ≡ b → FirstDoor table nonce key output scratch call
+      go : (a : Bool) → isKeyLength (length key) ≡ a → (b : Bool) → eqb nonce 0 ≡ b → FirstFromC table nonce key output scratch call
       go false a b z =
           by-call 1 (ap (λ (t : Bool). t && eqb nonce 0) a) (ap (λ (t : Bool). cond (not t) 1 (first rest)) a) (here (ap not a))
       go true a true z =
-          let same : door nonce key output scratch call ≡ ten = ap (λ (t : Bool). cond t ten call) (ap₂ _&&_ a z) in
-          let same-number : door nonce key output scratch call .outcome .number ≡ 10 = ap (λ (r : Result). r .outcome .number) same in
+          let same : fromC nonce key output scratch call ≡ ten = ap (λ (t : Bool). cond t ten call) (ap₂ _&&_ a z) in
+          let same-number : fromC nonce key output scratch call .outcome .number ≡ 10 = ap (λ (r : CallResult). r .outcome .number) same in
           record {
             ordered = k;
-            first = subst (FirstDue (atDoor nonce table)) (sym same-number) (later (ap not a) (here z));
-            empty = λ n. (ap (λ (r : Result). r .outcome) same, ap (λ (r : Result). r .output) same, ap (λ (r : Result). r .scratch) same);
+            first = subst (FirstDue (rowsFromC nonce table)) (sym same-number) (later (ap not a) (here z));
+            empty = λ n. (ap (λ (r : CallResult). r .outcome) same, ap (λ (r : CallResult). r .output) same, ap (λ (r : CallResult). r .scratch) same);
             otherwise = λ n. absurd (n same-number);
           }
       go true a false z =
@@ -111,26 +110,26 @@ module _ (rest : List Row) (nonce : ℕ) (key output scratch : List ℕ) (call :
 
 -- ---- piecewise calls
 
-module _ (n : ℕ) (done : steps.Result) (s : Stream) (output : List ℕ) (z : done .outcome .number ≡ 0) where
-  settled-number : steps.settle n done s output .outcome .number ≡ n
+module _ (n : ℕ) (done : StepResult) (s : Stream) (output : List ℕ) (z : done .outcome .number ≡ 0) where
+  settled-number : settle n done s output .outcome .number ≡ n
   settled-number = go (eqb n 0) refl
     where
-      go : (t : Bool) → eqb n 0 ≡ t → cond t done (steps.refusal n s output) .outcome .number ≡ n
+      go : (t : Bool) → eqb n 0 ≡ t → cond t done (refusedStep n s output) .outcome .number ≡ n
       go true e = z ∙ sym (eqb-true n 0 e)
       go false e = refl
 
-  settled-done : n ≡ 0 → steps.settle n done s output ≡ done
-  settled-done e = ap (λ (t : Bool). cond t done (steps.refusal n s output)) (eq-eqb n 0 e)
+  settled-done : n ≡ 0 → settle n done s output ≡ done
+  settled-done e = ap (λ (t : Bool). cond t done (refusedStep n s output)) (eq-eqb n 0 e)
 
-  settled-refused : (m : ℕ) → n ≡ m → (m ≡ 0 → ⊥) → steps.settle n done s output ≡ steps.refusal m s output
+  settled-refused : (m : ℕ) → n ≡ m → (m ≡ 0 → ⊥) → settle n done s output ≡ refusedStep m s output
   settled-refused m e k =
-      ap (λ (t : Bool). cond t done (steps.refusal n s output)) (ne-eqb n 0 (λ p. k (sym e ∙ p))) ∙ ap (λ (k : ℕ). steps.refusal k s output) e
+      ap (λ (t : Bool). cond t done (refusedStep n s output)) (ne-eqb n 0 (λ p. k (sym e ∙ p))) ∙ ap (λ (k : ℕ). refusedStep k s output) e
 
 -- a call whose table gives its number
-by-table : (table : List Row) (done : steps.Result) (s : Stream) (output : List ℕ) → keeps order table ≡ true → done .outcome .number ≡ 0
-    → FirstStep table (steps.settle (first table) done s output) done s output
+by-table : (table : List Row) (done : StepResult) (s : Stream) (output : List ℕ) → keeps order table ≡ true → done .outcome .number ≡ 0
+    → FirstStep table (settle (first table) done s output) done s output
 by-table table done s output k z =
-    let number : steps.settle (first table) done s output .outcome .number ≡ first table = settled-number (first table) done s output z in
+    let number : settle (first table) done s output .outcome .number ≡ first table = settled-number (first table) done s output z in
     record {
       ordered = k;
       first = subst (FirstDue table) (sym number) (first-due table);
@@ -142,26 +141,26 @@ finishing : (s : Stream) (output : List ℕ) → FirstFinish s output
 unfolding finishStep
 finishing s output =
     let n : ℕ = first (finishTable s output) in
-    let done : steps.Result = steps.success (s .total) ended output in
+    let done : StepResult = doneStep (s .total) ended output in
     let number : finishStep s output .outcome .number ≡ n = go (eqb n 8) refl in
     record {
       ordered = refl;
       first = subst (FirstDue (finishTable s output)) (sym number) (first-due (finishTable s output));
       done = λ e.
           let zero : n ≡ 0 = sym number ∙ e in
-          ap (λ (t : Bool). cond t (forged s output) (steps.settle n done s output)) (ne-eqb n 8 (λ p. omega (arith, p, zero))) ∙ settled-done n done s output refl zero;
-      forged = λ e. ap (λ (t : Bool). cond t (forged s output) (steps.settle n done s output)) (eq-eqb n 8 (sym number ∙ e));
+          ap (λ (t : Bool). cond t (forged s output) (settle n done s output)) (ne-eqb n 8 (λ p. omega (arith, p, zero))) ∙ settled-done n done s output refl zero;
+      forged = λ e. ap (λ (t : Bool). cond t (forged s output) (settle n done s output)) (eq-eqb n 8 (sym number ∙ e));
       refused = λ m e k k8.
-          ap (λ (t : Bool). cond t (forged s output) (steps.settle n done s output)) (ne-eqb n 8 (λ p. k8 (sym e ∙ number ∙ p))) ∙ settled-refused n done s output refl m (sym number ∙ e) k;
+          ap (λ (t : Bool). cond t (forged s output) (settle n done s output)) (ne-eqb n 8 (λ p. k8 (sym e ∙ number ∙ p))) ∙ settled-refused n done s output refl m (sym number ∙ e) k;
     }
   where
-    forged : Stream → List ℕ → steps.Result
-    forged s output = steps.refusal 8 ended (put output 0 (replicate (s .total) 0))
+    forged : Stream → List ℕ → StepResult
+    forged s output = refusedStep 8 ended (put output 0 (replicate (s .total) 0))
 
     go : (t : Bool) → eqb (first (finishTable s output)) 8 ≡ t
-        → cond t (forged s output) (steps.settle (first (finishTable s output)) (steps.success (s .total) ended output) s output) .outcome .number ≡ first (finishTable s output)
+        → cond t (forged s output) (settle (first (finishTable s output)) (doneStep (s .total) ended output) s output) .outcome .number ≡ first (finishTable s output)
     go true e = sym (eqb-true (first (finishTable s output)) 8 e)
-    go false e = settled-number (first (finishTable s output)) (steps.success (s .total) ended output) s output refl
+    go false e = settled-number (first (finishTable s output)) (doneStep (s .total) ended output) s output refl
 
 -- a refusal by its number
 refusal : ℕ → Refusal
@@ -182,20 +181,20 @@ by-number State = refl
 by-number EmptyNonce = refl
 
 told : (a b : Answer) → outcomeOf a ≡ outcomeOf b → a ≡ b
-told (Done m) (Done n) e = ap (λ (k : ℕ). Done k) (ap (λ (o : Outcome). o .count) e)
-told (Done m) (Refused r) e = absurd (refusal-number r (sym (ap (λ (o : Outcome). o .number) e)))
-told (Refused r) (Done n) e = absurd (refusal-number r (ap (λ (o : Outcome). o .number) e))
+told (Ok m) (Ok n) e = ap (λ (k : ℕ). Ok k) (ap (λ (o : Outcome). o .count) e)
+told (Ok m) (Refused r) e = absurd (refusal-number r (sym (ap (λ (o : Outcome). o .number) e)))
+told (Refused r) (Ok n) e = absurd (refusal-number r (ap (λ (o : Outcome). o .number) e))
 told (Refused r) (Refused s) e =
     ap (λ (x : Refusal). Refused x) (sym (by-number r) ∙ ap (λ (o : Outcome). refusal (o .number)) e ∙ by-number s)
 
-pub demand : First
+pub answers-or-first-refusal : First
 unfolding beginSealer beginOpener addStep turnStep writeStep closeStep feedStep sealNumber sealCall openNumber openCall
-demand =
+answers-or-first-refusal =
     record {
       sealing = sealing;
       opening = opening;
-      sealingFromC = λ key header input output scratch ad nonce. at-door _ nonce key output scratch _ refl refl refl;
-      openingFromC = λ key header input output scratch ad nonce. at-door _ nonce key output scratch _ refl refl refl;
+      sealingFromC = λ key header input output scratch ad nonce. from-c _ nonce key output scratch _ refl refl refl;
+      openingFromC = λ key header input output scratch ad nonce. from-c _ nonce key output scratch _ refl refl refl;
       beginningSealer = λ key bytes lens. by-table _ _ _ _ refl refl;
       beginningOpener = λ key bytes lens tag. by-table _ _ _ _ refl refl;
       adding = λ s piece. by-table _ _ _ _ refl refl;

@@ -25,7 +25,7 @@ use Rattle.siv.specs.Calls.{isKeyLength, limit}
 use Rattle.siv.specs.Siv.{macKey, ctrKey, tagOf, streamed}
 use Rattle.siv.proofs.Laws.{KeyHalves, halves, aes-cipher}
 use Rattle.stream.specs.declared.Stream.{Stream}
-use Rattle.stream.specs.State.{start, allZero, writtenLimit, fits, held, tailOf, passedBlocks, added, tagOfState}
+use Rattle.stream.specs.State.{start, allZero, writtenLimit, fits, usedTail, tailOf, passedBlocks, added, tagOfState}
 use Rattle.stream.specs.Steps.{streamedAt}
 use Rattle.stream.proofs.Laws.{stateWith, Cut, cut, passed-more}
 use Rattle.demands.proofs.Siv.{length-streamed}
@@ -78,7 +78,7 @@ module _ (key : List ℕ) (ss : List (List ℕ)) where
     room = let c : Cut (length A) = cut (length A) in omega (arith, long, length-replicate {A = ℕ} 31 0)
 
     -- the tail's used bytes are the plaintext's last
-    held-state : held (stateOf stage v written A) ≡ drop before A
+    held-state : usedTail (stateOf stage v written A) ≡ drop before A
     unfolding before
     held-state =
         let count : tailLength (length A) ≡ 0 + length (drop before A) = omega (arith, long) in
@@ -94,7 +94,7 @@ module _ (key : List ℕ) (ss : List (List ℕ)) where
         let total : length A + length B ≡ length (A ++ B) = sym (length-append A B) in
         let more : p + n ≡ passedBlocks (length A + length B) = omega (arith, passed-more (length A) (length B)) in
         let blocks : p + n ≡ passedBlocks (length (A ++ B)) = more ∙ ap passedBlocks total in
-        let text : held (stateOf stage v written A) ++ B ≡ drop (16 * p) (A ++ B) = ap (λ (l : List ℕ). l ++ B) held-state ∙ sym (drop-append-le (16 * p) A B (omega arith)) in
+        let text : usedTail (stateOf stage v written A) ++ B ≡ drop (16 * p) (A ++ B) = ap (λ (l : List ℕ). l ++ B) held-state ∙ sym (drop-append-le (16 * p) A B (omega arith)) in
         let place : 16 * p + 16 * n ≡ 16 * passedBlocks (length (A ++ B)) = omega arith in
         with-same (stateOf stage v written A)
         (ap₂ (λ (x t : List ℕ). chain E x t n) (sym (chain-front E zeros A B p (omega arith))) text ∙ sym (chain-add E zeros (A ++ B) p n) ∙ ap (chain E zeros (A ++ B)) blocks)

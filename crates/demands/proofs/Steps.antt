@@ -21,8 +21,8 @@ use Rattle.siv.specs.Siv.{ctrKey, tagOf, streamed, opened, genuine}
 use Rattle.siv.proofs.Laws.{put-over}
 use Rattle.stream.specs.declared.Stream.{Stream}
 use Rattle.stream.specs.State.{ended, fits, added, tagOfState}
-use Rattle.stream.specs.Steps.{Result, success, refusal, settle, feedRows, turned, streamedAt, addStep, turnStep, writeStep, closeStep, feedStep, finishStep}
-use Rattle.demands.specs.Model.{Book, wants, After, accepts, shown, outputBefore, outputAfter, bookAfter, countAfter, modelStep}
+use Rattle.stream.specs.Steps.{StepResult, doneStep, refusedStep, settle, feedRows, turned, streamedAt, addStep, turnStep, writeStep, closeStep, feedStep, finishStep}
+use Rattle.demands.specs.Model.{ModelState, wants, After, accepts, shown, outputBefore, outputAfter, modelAfter, countAfter, modelStep}
 use Rattle.demands.specs.Run.{Begin, sealer, opener, Call, add, turn, write, close, feed, finish, call, sharedAfter}
 use Rattle.demands.specs.Whole.{Admits}
 use Rattle.demands.proofs.Pieces.{stateOf, join, fits-state, tag-state, stream-state, streamed-append, streamed-rest}
@@ -44,7 +44,7 @@ misfit : (wanted : ℕ) (s : Stream) → eqb (s .stage) wanted ≡ false → fit
 unfolding fits
 misfit wanted s e = simp e
 
-call-wrong : (s : Stream) (o : List ℕ) (c : Call) → eqb (s .stage) (wants c) ≡ false → call s o c ≡ refusal 9 s (lent o c)
+call-wrong : (s : Stream) (o : List ℕ) (c : Call) → eqb (s .stage) (wants c) ≡ false → call s o c ≡ refusedStep 9 s (lent o c)
 unfolding addStep turnStep writeStep closeStep feedStep finishStep
 call-wrong s o (add piece) e = simp (misfit 1 s e)
 call-wrong s o (turn output) e = simp (misfit 1 s e)
@@ -70,48 +70,48 @@ unwanted close = refl
 unwanted (feed piece) = refl
 unwanted finish = refl
 
-abbrev pub book : ℕ → List ℕ → List ℕ → Book
-book stage A W = record { stage = stage; A = A; W = W }
+abbrev pub modelOf : ℕ → List ℕ → List ℕ → ModelState
+modelOf stage A W = record { stage = stage; A = A; W = W }
 
--- a state and a shared output that the model knows by its book
-pub data Known (key bytes lens shared : List ℕ) : Begin → Book → Stream → List ℕ → Type 0 where
-  adding : (A : List ℕ) → length A ≤ limit → Known key bytes lens shared sealer (book 1 A []) (stateOf key (strings bytes lens) 1 zeros 0 A) shared
+-- a state and a shared output that the model knows by what it keeps
+pub data Known (key bytes lens shared : List ℕ) : Begin → ModelState → Stream → List ℕ → Type 0 where
+  adding : (A : List ℕ) → length A ≤ limit → Known key bytes lens shared sealer (modelOf 1 A []) (stateOf key (strings bytes lens) 1 zeros 0 A) shared
   writing : (A W : List ℕ) → length A ≤ limit → length W ≤ length A
-      → Known key bytes lens shared sealer (book 2 A W) (stateOf key (strings bytes lens) 2 (tagOf key (strings bytes lens) A) (length W) A) shared
-  closed : (A W : List ℕ) → Known key bytes lens shared sealer (book 0 A W) ended shared
+      → Known key bytes lens shared sealer (modelOf 2 A W) (stateOf key (strings bytes lens) 2 (tagOf key (strings bytes lens) A) (length W) A) shared
+  closed : (A W : List ℕ) → Known key bytes lens shared sealer (modelOf 0 A W) ended shared
   feeding : (T A : List ℕ) → length T ≡ 16 → length A ≤ limit → length A ≤ length shared
-      → Known key bytes lens shared (opener T) (book 3 A []) (stateOf key (strings bytes lens) 3 T 0 (streamed key T A)) (put shared 0 (streamed key T A))
-  finished : (T A o : List ℕ) → o ≡ shown key bytes lens (opener T) shared (book 0 A []) → Known key bytes lens shared (opener T) (book 0 A []) ended o
+      → Known key bytes lens shared (opener T) (modelOf 3 A []) (stateOf key (strings bytes lens) 3 T 0 (streamed key T A)) (put shared 0 (streamed key T A))
+  finished : (T A o : List ℕ) → o ≡ shown key bytes lens (opener T) shared (modelOf 0 A []) → Known key bytes lens shared (opener T) (modelOf 0 A []) ended o
 
 module _ (key bytes lens shared : List ℕ) (a : Admits key bytes lens) where
   ss : List (List ℕ)
   ss = strings bytes lens
 
   -- the call gives what the model says, and leaves what the model knows
-  pub record Steps (begin : Begin) (b : Book) (s : Stream) (o : List ℕ) (c : Call) : Type 0 where
+  pub record Steps (begin : Begin) (b : ModelState) (s : Stream) (o : List ℕ) (c : Call) : Type 0 where
     pub entry : record { outcome = call s o c .outcome; output = call s o c .output } ≡ modelStep key bytes lens begin shared b c .entry
-    pub next : Known key bytes lens shared begin (modelStep key bytes lens begin shared b c .book) (call s o c .state) (sharedAfter o c (call s o c .output))
+    pub next : Known key bytes lens shared begin (modelStep key bytes lens begin shared b c .model) (call s o c .state) (sharedAfter o c (call s o c .output))
 
   -- from what each of the two comes to
-  steps : (begin : Begin) (b : Book) (s : Stream) (o : List ℕ) (c : Call) (r : Result) (m : After) → call s o c ≡ r → modelStep key bytes lens begin shared b c ≡ m
-      → record { outcome = r .outcome; output = r .output } ≡ m .entry → Known key bytes lens shared begin (m .book) (r .state) (sharedAfter o c (r .output))
+  steps : (begin : Begin) (b : ModelState) (s : Stream) (o : List ℕ) (c : Call) (r : StepResult) (m : After) → call s o c ≡ r → modelStep key bytes lens begin shared b c ≡ m
+      → record { outcome = r .outcome; output = r .output } ≡ m .entry → Known key bytes lens shared begin (m .model) (r .state) (sharedAfter o c (r .output))
       → Steps begin b s o c
   steps begin b s o c r m p q e k =
       record {
-        entry = ap (λ (x : Result). record { outcome = x .outcome; output = x .output }) p ∙ e ∙ ap (λ (x : After). x .entry) (sym q);
+        entry = ap (λ (x : StepResult). record { outcome = x .outcome; output = x .output }) p ∙ e ∙ ap (λ (x : After). x .entry) (sym q);
         next =
-            subst (λ (x : After). Known key bytes lens shared begin (x .book) (call s o c .state) (sharedAfter o c (call s o c .output))) (sym q)
-            (subst (λ (x : Result). Known key bytes lens shared begin (m .book) (x .state) (sharedAfter o c (x .output))) (sym p) k);
+            subst (λ (x : After). Known key bytes lens shared begin (x .model) (call s o c .state) (sharedAfter o c (call s o c .output))) (sym q)
+            (subst (λ (x : StepResult). Known key bytes lens shared begin (m .model) (x .state) (sharedAfter o c (x .output))) (sym p) k);
       }
 
   -- the model's refusal, and what it says of success and of 8
-  abbrev pub refusedAfter : Begin → Book → Call → ℕ → After
-  refusedAfter begin b c n = record { book = b; entry = record { outcome = verdict n; output = outputBefore key bytes lens begin shared b c } }
+  abbrev pub refusedAfter : Begin → ModelState → Call → ℕ → After
+  refusedAfter begin b c n = record { model = b; entry = record { outcome = verdict n; output = outputBefore key bytes lens begin shared b c } }
 
-  abbrev pub doneAfter : Begin → Book → Call → ℕ → After
+  abbrev pub doneAfter : Begin → ModelState → Call → ℕ → After
   doneAfter begin b c n =
       record {
-        book = bookAfter key bytes lens begin shared b c;
+        model = modelAfter key bytes lens begin shared b c;
         entry =
             record {
               outcome = record { number = n; count = cond (eqb n 0) (countAfter key bytes lens begin shared b c) 0 };
@@ -119,26 +119,26 @@ module _ (key bytes lens shared : List ℕ) (a : Admits key bytes lens) where
             };
       }
 
-  pub model-wrong : (begin : Begin) (b : Book) (c : Call) → eqb (b .stage) (wants c) ≡ false
+  pub model-wrong : (begin : Begin) (b : ModelState) (c : Call) → eqb (b .stage) (wants c) ≡ false
       → modelStep key bytes lens begin shared b c ≡ refusedAfter begin b c 9
   unfolding modelStep
   model-wrong begin b c e = simp e
 
-  pub known-shown : (begin : Begin) (b : Book) (s : Stream) (o : List ℕ) → Known key bytes lens shared begin b s o → o ≡ shown key bytes lens begin shared b
+  pub known-shown : (begin : Begin) (b : ModelState) (s : Stream) (o : List ℕ) → Known key bytes lens shared begin b s o → o ≡ shown key bytes lens begin shared b
   known-shown begin b s o (adding A l) = refl
   known-shown begin b s o (writing A W l w) = refl
   known-shown begin b s o (closed A W) = refl
   known-shown begin b s o (feeding T A t l r) = refl
   known-shown begin b s o (finished T A _ e) = e
 
-  known-stage : (begin : Begin) (b : Book) (s : Stream) (o : List ℕ) → Known key bytes lens shared begin b s o → s .stage ≡ b .stage
+  known-stage : (begin : Begin) (b : ModelState) (s : Stream) (o : List ℕ) → Known key bytes lens shared begin b s o → s .stage ≡ b .stage
   known-stage begin b s o (adding A l) = refl
   known-stage begin b s o (writing A W l w) = refl
   known-stage begin b s o (closed A W) = refl
   known-stage begin b s o (feeding T A t l r) = refl
   known-stage begin b s o (finished T A _ e) = refl
 
-  lent-before : (begin : Begin) (b : Book) (o : List ℕ) (c : Call) → o ≡ shown key bytes lens begin shared b → lent o c ≡ outputBefore key bytes lens begin shared b c
+  lent-before : (begin : Begin) (b : ModelState) (o : List ℕ) (c : Call) → o ≡ shown key bytes lens begin shared b → lent o c ≡ outputBefore key bytes lens begin shared b c
   lent-before begin b o (add piece) e = refl
   lent-before begin b o (turn output) e = refl
   lent-before begin b o (write piece output) e = refl
@@ -146,9 +146,9 @@ module _ (key bytes lens shared : List ℕ) (a : Admits key bytes lens) where
   lent-before begin b o (feed piece) e = e
   lent-before begin b o finish e = e
 
-  wrong : (begin : Begin) (b : Book) (s : Stream) (o : List ℕ) (c : Call) → Known key bytes lens shared begin b s o → eqb (b .stage) (wants c) ≡ false → Steps begin b s o c
+  wrong : (begin : Begin) (b : ModelState) (s : Stream) (o : List ℕ) (c : Call) → Known key bytes lens shared begin b s o → eqb (b .stage) (wants c) ≡ false → Steps begin b s o c
   wrong begin b s o c k e =
-      steps begin b s o c (refusal 9 s (lent o c)) (refusedAfter begin b c 9) (call-wrong s o c (ap (λ (n : ℕ). eqb n (wants c)) (known-stage begin b s o k) ∙ e)) (model-wrong begin b c e)
+      steps begin b s o c (refusedStep 9 s (lent o c)) (refusedAfter begin b c 9) (call-wrong s o c (ap (λ (n : ℕ). eqb n (wants c)) (known-stage begin b s o k) ∙ e)) (model-wrong begin b c e)
       (ap (λ (l : List ℕ). record { outcome = verdict 9; output = l }) (lent-before begin b o c (known-shown begin b s o k)))
       (subst (Known key bytes lens shared begin b s) (sym (unchanged o c)) k)
 
@@ -158,37 +158,37 @@ module _ (key bytes lens shared : List ℕ) (a : Admits key bytes lens) where
     S : Stream
     S = stateOf key ss 1 zeros 0 A
 
-    b : Book
-    b = book 1 A []
+    b : ModelState
+    b = modelOf 1 A []
 
     fitting : fits 1 S ≡ true
     unfolding S
     fitting = fits-state key ss (a .keyed) 1 zeros 0 A within (omega arith)
 
-    add-step : (piece : List ℕ) → Steps sealer (book 1 A []) (stateOf key (strings bytes lens) 1 zeros 0 A) shared (add piece)
+    add-step : (piece : List ℕ) → Steps sealer (modelOf 1 A []) (stateOf key (strings bytes lens) 1 zeros 0 A) shared (add piece)
     unfolding addStep modelStep S ss b
     add-step piece = go (ltb limit (length A + length piece)) refl
       where
         total : length (A ++ piece) ≡ length A + length piece
         total = length-append A piece
 
-        go : (t : Bool) → ltb limit (length A + length piece) ≡ t → Steps sealer (book 1 A []) (stateOf key (strings bytes lens) 1 zeros 0 A) shared (add piece)
-        go true e = steps sealer b S shared (add piece) (refusal 4 S []) (refusedAfter sealer b (add piece) 4) (simp (fitting, e)) (simp (total, e)) refl (adding A within)
+        go : (t : Bool) → ltb limit (length A + length piece) ≡ t → Steps sealer (modelOf 1 A []) (stateOf key (strings bytes lens) 1 zeros 0 A) shared (add piece)
+        go true e = steps sealer b S shared (add piece) (refusedStep 4 S []) (refusedAfter sealer b (add piece) 4) (simp (fitting, e)) (simp (total, e)) refl (adding A within)
         go false e =
-            steps sealer b S shared (add piece) (success 0 (stateOf key ss 1 zeros 0 (A ++ piece)) []) (doneAfter sealer b (add piece) 0)
-            (simp (fitting, e) (ap (λ (s : Stream). success 0 s []) (join key ss 1 zeros 0 A piece))) (simp (total, e)) refl
+            steps sealer b S shared (add piece) (doneStep 0 (stateOf key ss 1 zeros 0 (A ++ piece)) []) (doneAfter sealer b (add piece) 0)
+            (simp (fitting, e) (ap (λ (s : Stream). doneStep 0 s []) (join key ss 1 zeros 0 A piece))) (simp (total, e)) refl
             (adding (A ++ piece) (omega (arith, total, ltb-false limit (length A + length piece) e)))
 
-    turn-step : (output : List ℕ) → Steps sealer (book 1 A []) (stateOf key (strings bytes lens) 1 zeros 0 A) shared (turn output)
+    turn-step : (output : List ℕ) → Steps sealer (modelOf 1 A []) (stateOf key (strings bytes lens) 1 zeros 0 A) shared (turn output)
     unfolding turnStep modelStep S ss b
     turn-step output = go (ltb (length output) 16) refl
       where
-        go : (t : Bool) → ltb (length output) 16 ≡ t → Steps sealer (book 1 A []) (stateOf key (strings bytes lens) 1 zeros 0 A) shared (turn output)
-        go true e = steps sealer b S shared (turn output) (refusal 6 S output) (refusedAfter sealer b (turn output) 6) (simp (fitting, e)) (simp e) refl (adding A within)
+        go : (t : Bool) → ltb (length output) 16 ≡ t → Steps sealer (modelOf 1 A []) (stateOf key (strings bytes lens) 1 zeros 0 A) shared (turn output)
+        go true e = steps sealer b S shared (turn output) (refusedStep 6 S output) (refusedAfter sealer b (turn output) 6) (simp (fitting, e)) (simp e) refl (adding A within)
         go false e =
             let v : List ℕ = tagOf key ss A in
-            steps sealer b S shared (turn output) (success 16 (turned S v) (put output 0 v)) (doneAfter sealer b (turn output) 0)
-            (simp (fitting, e) (ap (λ (x : List ℕ). success 16 (turned S x) (put output 0 x)) (tag-state key ss (a .keyed) 1 zeros 0 A))) (simp e) refl
+            steps sealer b S shared (turn output) (doneStep 16 (turned S v) (put output 0 v)) (doneAfter sealer b (turn output) 0)
+            (simp (fitting, e) (ap (λ (x : List ℕ). doneStep 16 (turned S x) (put output 0 x)) (tag-state key ss (a .keyed) 1 zeros 0 A))) (simp e) refl
             (writing A [] within (omega arith))
 
   module _ (A W : List ℕ) (within : length A ≤ limit) (shorter : length W ≤ length A) where
@@ -198,15 +198,15 @@ module _ (key bytes lens shared : List ℕ) (a : Admits key bytes lens) where
     SW : Stream
     SW = stateOf key ss 2 v (length W) A
 
-    bW : Book
-    bW = book 2 A W
+    bW : ModelState
+    bW = modelOf 2 A W
 
     fittingW : fits 2 SW ≡ true
     unfolding SW
     fittingW = fits-state key ss (a .keyed) 2 v (length W) A within shorter
 
     write-step : (piece output : List ℕ)
-        → Steps sealer (book 2 A W) (stateOf key (strings bytes lens) 2 (tagOf key (strings bytes lens) A) (length W) A) shared (write piece output)
+        → Steps sealer (modelOf 2 A W) (stateOf key (strings bytes lens) 2 (tagOf key (strings bytes lens) A) (length W) A) shared (write piece output)
     unfolding writeStep modelStep SW ss bW v
     write-step piece output = go (ltb (length A) (length W + length piece)) refl (ltb (length output) (length piece)) refl
       where
@@ -217,26 +217,26 @@ module _ (key bytes lens shared : List ℕ) (a : Admits key bytes lens) where
         text = stream-state key ss (a .keyed) 2 v (length W) A (length W) piece ∙ sym (streamed-rest key v W piece)
 
         go : (t : Bool) → ltb (length A) (length W + length piece) ≡ t → (u : Bool) → ltb (length output) (length piece) ≡ u
-            → Steps sealer (book 2 A W) (stateOf key (strings bytes lens) 2 (tagOf key (strings bytes lens) A) (length W) A) shared (write piece output)
+            → Steps sealer (modelOf 2 A W) (stateOf key (strings bytes lens) 2 (tagOf key (strings bytes lens) A) (length W) A) shared (write piece output)
         go true e u f =
-            steps sealer bW SW shared (write piece output) (refusal 4 SW output) (refusedAfter sealer bW (write piece output) 4) (simp (fittingW, e)) (simp (total, e)) refl
+            steps sealer bW SW shared (write piece output) (refusedStep 4 SW output) (refusedAfter sealer bW (write piece output) 4) (simp (fittingW, e)) (simp (total, e)) refl
             (writing A W within shorter)
         go false e true f =
-            steps sealer bW SW shared (write piece output) (refusal 6 SW output) (refusedAfter sealer bW (write piece output) 6) (simp (fittingW, e, f)) (simp (total, e, f)) refl
+            steps sealer bW SW shared (write piece output) (refusedStep 6 SW output) (refusedAfter sealer bW (write piece output) 6) (simp (fittingW, e, f)) (simp (total, e, f)) refl
             (writing A W within shorter)
         go false e false f =
             let last : List ℕ = put output 0 (drop (length W) (streamed key v (W ++ piece))) in
-            steps sealer bW SW shared (write piece output) (success (length piece) (stateOf key ss 2 v (length (W ++ piece)) A) last) (doneAfter sealer bW (write piece output) 0)
-            (simp (fittingW, e, f) (ap₂ (λ (n : ℕ) (x : List ℕ). success (length piece) (stateOf key ss 2 v n A) (put output 0 x)) (sym total) text)) (simp (total, e, f)) refl
+            steps sealer bW SW shared (write piece output) (doneStep (length piece) (stateOf key ss 2 v (length (W ++ piece)) A) last) (doneAfter sealer bW (write piece output) 0)
+            (simp (fittingW, e, f) (ap₂ (λ (n : ℕ) (x : List ℕ). doneStep (length piece) (stateOf key ss 2 v n A) (put output 0 x)) (sym total) text)) (simp (total, e, f)) refl
             (writing A (W ++ piece) within (omega (arith, total, ltb-false (length A) (length W + length piece) e)))
 
-    close-step : Steps sealer (book 2 A W) (stateOf key (strings bytes lens) 2 (tagOf key (strings bytes lens) A) (length W) A) shared close
+    close-step : Steps sealer (modelOf 2 A W) (stateOf key (strings bytes lens) 2 (tagOf key (strings bytes lens) A) (length W) A) shared close
     unfolding closeStep modelStep SW ss bW v
     close-step = go (ltb (length W) (length A)) refl
       where
-        go : (t : Bool) → ltb (length W) (length A) ≡ t → Steps sealer (book 2 A W) (stateOf key (strings bytes lens) 2 (tagOf key (strings bytes lens) A) (length W) A) shared close
-        go true e = steps sealer bW SW shared close (refusal 9 SW []) (refusedAfter sealer bW close 9) (simp (fittingW, e)) (simp e) refl (writing A W within shorter)
-        go false e = steps sealer bW SW shared close (success 0 ended []) (doneAfter sealer bW close 0) (simp (fittingW, e)) (simp e) refl (closed A W)
+        go : (t : Bool) → ltb (length W) (length A) ≡ t → Steps sealer (modelOf 2 A W) (stateOf key (strings bytes lens) 2 (tagOf key (strings bytes lens) A) (length W) A) shared close
+        go true e = steps sealer bW SW shared close (refusedStep 9 SW []) (refusedAfter sealer bW close 9) (simp (fittingW, e)) (simp e) refl (writing A W within shorter)
+        go false e = steps sealer bW SW shared close (doneStep 0 ended []) (doneAfter sealer bW close 0) (simp (fittingW, e)) (simp e) refl (closed A W)
 
   -- ---- the opener's calls in the stage that they want
 
@@ -247,8 +247,8 @@ module _ (key bytes lens shared : List ℕ) (a : Admits key bytes lens) where
     SF : Stream
     SF = stateOf key ss 3 T 0 P
 
-    bF : Book
-    bF = book 3 A []
+    bF : ModelState
+    bF = modelOf 3 A []
 
     o : List ℕ
     o = put shared 0 P
@@ -265,7 +265,7 @@ module _ (key bytes lens shared : List ℕ) (a : Admits key bytes lens) where
     unfolding SF
     fittingF = fits-state key ss (a .keyed) 3 T 0 P (omega (arith, long)) (omega arith)
 
-    feed-step : (piece : List ℕ) → Steps (opener T) (book 3 A []) (stateOf key (strings bytes lens) 3 T 0 (streamed key T A)) (put shared 0 (streamed key T A)) (feed piece)
+    feed-step : (piece : List ℕ) → Steps (opener T) (modelOf 3 A []) (stateOf key (strings bytes lens) 3 T 0 (streamed key T A)) (put shared 0 (streamed key T A)) (feed piece)
     unfolding feedStep modelStep SF ss bF P o
     feed-step piece = go (ltb limit (length A + length piece)) refl (ltb (length shared) (length A + length piece)) refl
       where
@@ -294,21 +294,21 @@ module _ (key bytes lens shared : List ℕ) (a : Admits key bytes lens) where
             ∙ ap₂ (λ (n m : ℕ). cond (ltb limit (n + length piece)) 4 (cond (ltb m (n + length piece)) 6 0)) long longer
 
         settled : (n : ℕ) → cond (ltb limit (length A + length piece)) 4 (cond (ltb (length shared) (length A + length piece)) 6 0) ≡ n
-            → call SF o (feed piece) ≡ settle n (success (length piece) (stateOf key ss 3 T 0 (streamed key T (A ++ piece))) (put shared 0 (streamed key T (A ++ piece)))) SF o
+            → call SF o (feed piece) ≡ settle n (doneStep (length piece) (stateOf key ss 3 T 0 (streamed key T (A ++ piece))) (put shared 0 (streamed key T (A ++ piece)))) SF o
         settled n e =
-            ap₂ (λ (k : ℕ) (r : Result). settle k r SF o) (number ∙ e) (ap₂ (λ (s : Stream) (x : List ℕ). success (length piece) s x) state last)
+            ap₂ (λ (k : ℕ) (r : StepResult). settle k r SF o) (number ∙ e) (ap₂ (λ (s : Stream) (x : List ℕ). doneStep (length piece) s x) state last)
 
         go : (t : Bool) → ltb limit (length A + length piece) ≡ t → (u : Bool) → ltb (length shared) (length A + length piece) ≡ u
-            → Steps (opener T) (book 3 A []) (stateOf key (strings bytes lens) 3 T 0 (streamed key T A)) (put shared 0 (streamed key T A)) (feed piece)
+            → Steps (opener T) (modelOf 3 A []) (stateOf key (strings bytes lens) 3 T 0 (streamed key T A)) (put shared 0 (streamed key T A)) (feed piece)
         go true e u f =
-            steps (opener T) bF SF o (feed piece) (refusal 4 SF o) (refusedAfter (opener T) bF (feed piece) 4) (settled 4 (simp e)) (simp (total, e)) refl
+            steps (opener T) bF SF o (feed piece) (refusedStep 4 SF o) (refusedAfter (opener T) bF (feed piece) 4) (settled 4 (simp e)) (simp (total, e)) refl
             (feeding T A tagged within roomy)
         go false e true f =
-            steps (opener T) bF SF o (feed piece) (refusal 6 SF o) (refusedAfter (opener T) bF (feed piece) 6) (settled 6 (simp (e, f))) (simp (total, e, f)) refl
+            steps (opener T) bF SF o (feed piece) (refusedStep 6 SF o) (refusedAfter (opener T) bF (feed piece) 6) (settled 6 (simp (e, f))) (simp (total, e, f)) refl
             (feeding T A tagged within roomy)
         go false e false f =
             steps (opener T) bF SF o (feed piece)
-            (success (length piece) (stateOf key ss 3 T 0 (streamed key T (A ++ piece))) (put shared 0 (streamed key T (A ++ piece))))
+            (doneStep (length piece) (stateOf key ss 3 T 0 (streamed key T (A ++ piece))) (put shared 0 (streamed key T (A ++ piece))))
             (doneAfter (opener T) bF (feed piece) 0) (settled 0 (simp (e, f))) (simp (total, e, f)) refl
             (feeding T (A ++ piece) tagged (omega (arith, total, ltb-false limit (length A + length piece) e)) (omega (arith, total, ltb-false (length shared) (length A + length piece) f)))
 
@@ -323,7 +323,7 @@ module _ (key bytes lens shared : List ℕ) (a : Admits key bytes lens) where
     unfolding opened y P
     opened-fed = ap₂ (streamed key) front (drop-at T A 16 tagged)
 
-    -- the state's verdict is whole opening's
+    -- finish compares the tags that whole opening compares
     genuine-fed : same (tagOfState SF) T ≡ genuine key ss (T ++ A)
     unfolding genuine SF y
     genuine-fed = ap₂ same (tag-state key ss (a .keyed) 3 T 0 P ∙ ap (tagOf key ss) (sym opened-fed)) (sym front)
@@ -355,28 +355,28 @@ module _ (key bytes lens shared : List ℕ) (a : Admits key bytes lens) where
     enough : ltb (length o) (length P) ≡ false
     enough = le-ltb (length o) (length P) (omega (arith, long, longer))
 
-    finish-step : Steps (opener T) (book 3 A []) (stateOf key (strings bytes lens) 3 T 0 (streamed key T A)) (put shared 0 (streamed key T A)) finish
+    finish-step : Steps (opener T) (modelOf 3 A []) (stateOf key (strings bytes lens) 3 T 0 (streamed key T A)) (put shared 0 (streamed key T A)) finish
     unfolding finishStep modelStep SF ss bF P o
     finish-step = go (genuine key (strings bytes lens) (T ++ A)) genuine-fed accepts-genuine
       where
         go : (t : Bool) → same (tagOfState SF) T ≡ t → accepts key bytes lens T A ≡ t
-            → Steps (opener T) (book 3 A []) (stateOf key (strings bytes lens) 3 T 0 (streamed key T A)) (put shared 0 (streamed key T A)) finish
+            → Steps (opener T) (modelOf 3 A []) (stateOf key (strings bytes lens) 3 T 0 (streamed key T A)) (put shared 0 (streamed key T A)) finish
         go true g h =
-            let last : o ≡ shown key bytes lens (opener T) shared (book 0 A []) =
+            let last : o ≡ shown key bytes lens (opener T) shared (modelOf 0 A []) =
             ap (put shared 0) (sym (ap (λ (t : Bool). cond t (opened key (T ++ A)) (replicate (length A) 0)) h ∙ opened-fed)) in
-            steps (opener T) bF SF o finish (success (length P) ended o) (doneAfter (opener T) bF finish 0) (simp (fittingF, enough, g)) (simp h)
+            steps (opener T) bF SF o finish (doneStep (length P) ended o) (doneAfter (opener T) bF finish 0) (simp (fittingF, enough, g)) (simp h)
             (ap₂ (λ (n : ℕ) (x : List ℕ). record { outcome = record { number = 0; count = n }; output = x }) long last)
             (finished T A o last)
         go false g h =
-            let last : put o 0 (replicate (length P) 0) ≡ shown key bytes lens (opener T) shared (book 0 A []) =
+            let last : put o 0 (replicate (length P) 0) ≡ shown key bytes lens (opener T) shared (modelOf 0 A []) =
             wiped ∙ ap (put shared 0) (sym (ap (λ (t : Bool). cond t (opened key (T ++ A)) (replicate (length A) 0)) h)) in
-            steps (opener T) bF SF o finish (refusal 8 ended (put o 0 (replicate (length P) 0))) (doneAfter (opener T) bF finish 8) (simp (fittingF, enough, g)) (simp h)
+            steps (opener T) bF SF o finish (refusedStep 8 ended (put o 0 (replicate (length P) 0))) (doneAfter (opener T) bF finish 8) (simp (fittingF, enough, g)) (simp h)
             (ap (λ (x : List ℕ). record { outcome = verdict 8; output = x }) last)
             (finished T A (put o 0 (replicate (length P) 0)) last)
 
   -- ---- any call
 
-  pub step : (begin : Begin) (b : Book) (s : Stream) (o : List ℕ) (c : Call) → Known key bytes lens shared begin b s o → Steps begin b s o c
+  pub step : (begin : Begin) (b : ModelState) (s : Stream) (o : List ℕ) (c : Call) → Known key bytes lens shared begin b s o → Steps begin b s o c
   step begin b s o (add piece) (adding A l) = add-step A l piece
   step begin b s o (turn output) (adding A l) = turn-step A l output
   step begin b s o (write piece output) (adding A l) = wrong _ _ _ _ (write piece output) (adding A l) refl

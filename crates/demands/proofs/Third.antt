@@ -1,4 +1,4 @@
--- The third demand holds: by induction over the list of calls, from one relation between a state and the model's book.
+-- The third demand holds: by induction over the list of calls, from one relation between a state and what the model keeps.
 -- Assumes nothing.
 use mathlib.Core.Path.{_≡_, refl, ap, ap₂, sym, subst, _∙_}
 use mathlib.Core.Bool.{Bool, true, false, not, true≢false, false≢true, cond, _||_}
@@ -21,15 +21,15 @@ use Rattle.siv.specs.Siv.{ctrKey, tagOf, streamed, sealed, opened, genuine}
 use Rattle.siv.proofs.Laws.{openJudged, length-opened}
 use Rattle.stream.specs.declared.Stream.{Stream}
 use Rattle.stream.specs.State.{ended}
-use Rattle.stream.specs.Steps.{Result, success, beginSealer, beginOpener}
-use Rattle.demands.specs.Model.{Book, After, fresh, wants, accepts, outputBefore, modelNumber, modelStep, modelRun}
+use Rattle.stream.specs.Steps.{StepResult, doneStep, beginSealer, beginOpener}
+use Rattle.demands.specs.Model.{ModelState, After, fresh, wants, accepts, outputBefore, modelNumber, modelStep, modelRun}
 use Rattle.demands.specs.Run.{Begin, sealer, opener, Call, add, turn, write, close, feed, finish, begun, Entry, run}
 use Rattle.demands.specs.Third.{onePiece, gaveBy, gave, noFinish, AsModel, AsSealed, fed, AsOpened, ThirdDemand}
 use Rattle.demands.specs.Whole.{Admits}
 use Rattle.demands.proofs.Pieces.{stateOf, begin-state, streamed-append, streamed-rest}
 use Rattle.demands.proofs.Siv.{length-tag, length-streamed}
-use Rattle.demands.proofs.Steps.{book, Known, adding, writing, closed, feeding, finished, Steps, step, known-shown, accepts-genuine, refusedAfter, doneAfter, model-wrong, unwanted}
-use Rattle.demands.proofs.Whole.{judged, open-gives, open-wipes, third-whole}
+use Rattle.demands.proofs.Steps.{modelOf, Known, adding, writing, closed, feeding, finished, Steps, step, known-shown, accepts-genuine, refusedAfter, doneAfter, model-wrong, unwanted}
+use Rattle.demands.proofs.Whole.{judged, open-gives, open-wipes, accepts-the-sealed}
 
 streamed-nil : (key v : List ℕ) → streamed key v [] ≡ []
 unfolding streamed xorStream xors
@@ -45,112 +45,112 @@ module _ (key bytes lens : List ℕ) (a : Admits key bytes lens) where
 
   -- ---- begin
 
-  sealer-begins : beginSealer key bytes lens ≡ success 0 (stateOf key (strings bytes lens) 1 zeros 0 []) []
+  sealer-begins : beginSealer key bytes lens ≡ doneStep 0 (stateOf key (strings bytes lens) 1 zeros 0 []) []
   unfolding beginSealer
   sealer-begins =
       simp (a .keyed, le-ltb 126 (length lens) (a .few), eq-eqb (total lens) (length bytes) (a .listed))
-      (ap (λ (s : Stream). success 0 s []) (begin-state key (strings bytes lens) 1 zeros))
+      (ap (λ (s : Stream). doneStep 0 s []) (begin-state key (strings bytes lens) 1 zeros))
 
-  opener-begins : (T : List ℕ) → length T ≡ 16 → beginOpener key bytes lens T ≡ success 0 (stateOf key (strings bytes lens) 3 T 0 []) []
+  opener-begins : (T : List ℕ) → length T ≡ 16 → beginOpener key bytes lens T ≡ doneStep 0 (stateOf key (strings bytes lens) 3 T 0 []) []
   unfolding beginOpener
   opener-begins T t =
       simp (a .keyed, le-ltb 126 (length lens) (a .few), eq-eqb (total lens) (length bytes) (a .listed), eq-eqb (length T) 16 t)
-      (ap (λ (s : Stream). success 0 s []) (begin-state key (strings bytes lens) 3 T))
+      (ap (λ (s : Stream). doneStep 0 s []) (begin-state key (strings bytes lens) 3 T))
 
   module _ (shared : List ℕ) where
     sealer-known : Known key bytes lens shared sealer (fresh sealer) (beginSealer key bytes lens .state) shared
     sealer-known =
-        subst (λ (r : Result). Known key bytes lens shared sealer (fresh sealer) (r .state) shared) (sym sealer-begins) (adding [] (omega arith))
+        subst (λ (r : StepResult). Known key bytes lens shared sealer (fresh sealer) (r .state) shared) (sym sealer-begins) (adding [] (omega arith))
 
     opener-known : (T : List ℕ) → length T ≡ 16 → Known key bytes lens shared (opener T) (fresh (opener T)) (beginOpener key bytes lens T .state) shared
     opener-known T t =
-        subst (λ (r : Result). Known key bytes lens shared (opener T) (fresh (opener T)) (r .state) shared) (sym (opener-begins T t))
+        subst (λ (r : StepResult). Known key bytes lens shared (opener T) (fresh (opener T)) (r .state) shared) (sym (opener-begins T t))
         (subst (Known key bytes lens shared (opener T) (fresh (opener T)) (stateOf key (strings bytes lens) 3 T 0 [])) (ap (put shared 0) (streamed-nil key T) ∙ put-nil shared)
         (subst (λ (P : List ℕ). Known key bytes lens shared (opener T) (fresh (opener T)) (stateOf key (strings bytes lens) 3 T 0 P) (put shared 0 (streamed key T []))) (streamed-nil key T)
         (feeding T [] t (omega arith) (omega arith))))
 
     -- ---- any list of calls
 
-    runs : (begin : Begin) (calls : List Call) (b : Book) (s : Stream) (o : List ℕ) → Known key bytes lens shared begin b s o
+    runs : (begin : Begin) (calls : List Call) (b : ModelState) (s : Stream) (o : List ℕ) → Known key bytes lens shared begin b s o
         → (run s o calls .entries ≡ modelRun key bytes lens begin shared b calls .entries)
-        × Known key bytes lens shared begin (modelRun key bytes lens begin shared b calls .book) (run s o calls .state) (run s o calls .shared)
+        × Known key bytes lens shared begin (modelRun key bytes lens begin shared b calls .model) (run s o calls .state) (run s o calls .shared)
     runs begin [] b s o k = (refl, k)
     runs begin (c ∷ cs) b s o k =
         let here : Steps key bytes lens shared a begin b s o c = step key bytes lens shared a begin b s o c k in
         let rest = runs begin cs _ _ _ (here .next) in
         (ap₂ (λ (e : Entry) (es : List Entry). e ∷ es) (here .entry) (rest .0), rest .1)
 
-    -- the state that a book stands for
-    abbrev stateBy : Begin → Book → Stream
+    -- the state that stands for what the model keeps
+    abbrev stateBy : Begin → ModelState → Stream
     stateBy sealer b =
         cond (eqb (b .stage) 1) (stateOf key (strings bytes lens) 1 zeros 0 (b .A))
         (cond (eqb (b .stage) 2) (stateOf key (strings bytes lens) 2 (tagOf key (strings bytes lens) (b .A)) (length (b .W)) (b .A)) ended)
     stateBy (opener T) b = cond (eqb (b .stage) 3) (stateOf key (strings bytes lens) 3 T 0 (streamed key T (b .A))) ended
 
-    known-state : (begin : Begin) (b : Book) (s : Stream) (o : List ℕ) → Known key bytes lens shared begin b s o → s ≡ stateBy begin b
+    known-state : (begin : Begin) (b : ModelState) (s : Stream) (o : List ℕ) → Known key bytes lens shared begin b s o → s ≡ stateBy begin b
     known-state begin b s o (adding A l) = refl
     known-state begin b s o (writing A W l w) = refl
     known-state begin b s o (closed A W) = refl
     known-state begin b s o (feeding T A t l r) = refl
     known-state begin b s o (finished T A _ e) = refl
 
-    -- the model's book of the same bytes in one piece is the same
-    one-book : (begin : Begin) (b : Book) (s : Stream) (o : List ℕ) → Known key bytes lens shared begin b s o → eqb (b .stage) 0 ≡ false
-        → modelRun key bytes lens begin shared (fresh begin) (onePiece b) .book ≡ b
+    -- of the same bytes in one piece the model keeps the same
+    one-model : (begin : Begin) (b : ModelState) (s : Stream) (o : List ℕ) → Known key bytes lens shared begin b s o → eqb (b .stage) 0 ≡ false
+        → modelRun key bytes lens begin shared (fresh begin) (onePiece b) .model ≡ b
     unfolding modelStep
-    one-book begin b s o (adding A l) z = simp (le-ltb limit (length A) l)
-    one-book begin b s o (writing A W l w) z = simp (le-ltb limit (length A) l, le-ltb (length A) (length W) w, le-ltb (length W) (length W) (omega arith))
-    one-book begin b s o (closed A W) z = absurd (true≢false z)
-    one-book begin b s o (feeding T A t l r) z = simp (le-ltb limit (length A) l, le-ltb (length shared) (length A) r)
-    one-book begin b s o (finished T A _ e) z = absurd (true≢false z)
+    one-model begin b s o (adding A l) z = simp (le-ltb limit (length A) l)
+    one-model begin b s o (writing A W l w) z = simp (le-ltb limit (length A) l, le-ltb (length A) (length W) w, le-ltb (length W) (length W) (omega arith))
+    one-model begin b s o (closed A W) z = absurd (true≢false z)
+    one-model begin b s o (feeding T A t l r) z = simp (le-ltb limit (length A) l, le-ltb (length shared) (length A) r)
+    one-model begin b s o (finished T A _ e) z = absurd (true≢false z)
 
-    zero-state : (begin : Begin) (b : Book) (s : Stream) (o : List ℕ) → Known key bytes lens shared begin b s o → eqb (b .stage) 0 ≡ true → stateBy begin b ≡ ended
+    zero-state : (begin : Begin) (b : ModelState) (s : Stream) (o : List ℕ) → Known key bytes lens shared begin b s o → eqb (b .stage) 0 ≡ true → stateBy begin b ≡ ended
     zero-state begin b s o (adding A l) z = absurd (false≢true z)
     zero-state begin b s o (writing A W l w) z = absurd (false≢true z)
     zero-state begin b s o (closed A W) z = refl
     zero-state begin b s o (feeding T A t l r) z = absurd (false≢true z)
     zero-state begin b s o (finished T A _ e) z = refl
 
-    named : (begin : Begin) (s₀ : Stream) → Known key bytes lens shared begin (fresh begin) s₀ shared → (b : Book) (s : Stream) (o : List ℕ) → Known key bytes lens shared begin b s o
+    as-one-piece : (begin : Begin) (s₀ : Stream) → Known key bytes lens shared begin (fresh begin) s₀ shared → (b : ModelState) (s : Stream) (o : List ℕ) → Known key bytes lens shared begin b s o
         → s ≡ cond (eqb (b .stage) 0) ended (run s₀ shared (onePiece b) .state)
-    named begin s₀ k₀ b s o k = go (eqb (b .stage) 0) refl
+    as-one-piece begin s₀ k₀ b s o k = go (eqb (b .stage) 0) refl
       where
         go : (t : Bool) → eqb (b .stage) 0 ≡ t → s ≡ cond t ended (run s₀ shared (onePiece b) .state)
         go true z = known-state begin b s o k ∙ zero-state begin b s o k z
         go false z =
             known-state begin b s o k
-            ∙ ap (stateBy begin) (sym (one-book begin b s o k z))
+            ∙ ap (stateBy begin) (sym (one-model begin b s o k z))
             ∙ sym (known-state begin _ _ _ (runs begin (onePiece b) (fresh begin) s₀ shared k₀ .1))
 
-    as-model : (begin : Begin) (s : Stream) → begun begin key bytes lens ≡ success 0 s [] → Known key bytes lens shared begin (fresh begin) (begun begin key bytes lens .state) shared → (calls : List Call)
+    as-model : (begin : Begin) (s : Stream) → begun begin key bytes lens ≡ doneStep 0 s [] → Known key bytes lens shared begin (fresh begin) (begun begin key bytes lens .state) shared → (calls : List Call)
         → AsModel key bytes lens begin shared calls
     as-model begin s e k calls =
         let r = runs begin calls (fresh begin) (begun begin key bytes lens .state) shared k in
         record {
-          begins = ap (λ (r : Result). r .outcome) e;
+          begins = ap (λ (r : StepResult). r .outcome) e;
           entries = r .0;
           output = known-shown key bytes lens shared a begin _ _ _ (r .1);
-          state = named begin (begun begin key bytes lens .state) k _ _ _ (r .1);
+          state = as-one-piece begin (begun begin key bytes lens .state) k _ _ _ (r .1);
         }
 
     -- ---- what turn and the writes gave
 
-    -- what a sealer has given when its book is b
-    abbrev soFar : Book → List ℕ
+    -- what a sealer has given when the model keeps b
+    abbrev soFar : ModelState → List ℕ
     soFar b =
         cond (eqb (b .stage) 1) []
         (tagOf key (strings bytes lens) (b .A) ++ streamed key (tagOf key (strings bytes lens) (b .A)) (b .W))
 
-    -- a call gave what its book shows more
-    abbrev Gave : Book → Call → Type 0
-    Gave b c = soFar b ++ gaveBy c (modelStep key bytes lens sealer shared b c .entry) ≡ soFar (modelStep key bytes lens sealer shared b c .book)
+    -- a call gave what the model shows more
+    abbrev Gave : ModelState → Call → Type 0
+    Gave b c = soFar b ++ gaveBy c (modelStep key bytes lens sealer shared b c .entry) ≡ soFar (modelStep key bytes lens sealer shared b c .model)
 
     -- from what the model comes to
-    gave-by : (b : Book) (c : Call) (m : After) → modelStep key bytes lens sealer shared b c ≡ m → soFar b ++ gaveBy c (m .entry) ≡ soFar (m .book) → Gave b c
-    gave-by b c m e p = ap (λ (x : After). soFar b ++ gaveBy c (x .entry)) e ∙ p ∙ ap (λ (x : After). soFar (x .book)) (sym e)
+    gave-by : (b : ModelState) (c : Call) (m : After) → modelStep key bytes lens sealer shared b c ≡ m → soFar b ++ gaveBy c (m .entry) ≡ soFar (m .model) → Gave b c
+    gave-by b c m e p = ap (λ (x : After). soFar b ++ gaveBy c (x .entry)) e ∙ p ∙ ap (λ (x : After). soFar (x .model)) (sym e)
 
-    -- a refused call gave nothing and leaves the book
-    refused-gave : (b : Book) (c : Call) (n : ℕ) → modelStep key bytes lens sealer shared b c ≡ refusedAfter key bytes lens shared a sealer b c n → Gave b c
+    -- a refused call gave nothing and leaves the model
+    refused-gave : (b : ModelState) (c : Call) (n : ℕ) → modelStep key bytes lens sealer shared b c ≡ refusedAfter key bytes lens shared a sealer b c n → Gave b c
     refused-gave b c n e =
         gave-by b c (refusedAfter key bytes lens shared a sealer b c n) e
         (ap (λ (l : List ℕ). soFar b ++ l) (none c (outputBefore key bytes lens sealer shared b c)) ∙ append-nil (soFar b))
@@ -163,7 +163,7 @@ module _ (key bytes lens : List ℕ) (a : Admits key bytes lens) where
         none (feed piece) l = refl
         none finish l = refl
 
-    wrong-gave : (b : Book) (c : Call) → eqb (b .stage) (wants c) ≡ false → Gave b c
+    wrong-gave : (b : ModelState) (c : Call) → eqb (b .stage) (wants c) ≡ false → Gave b c
     wrong-gave b c e = refused-gave b c 9 (model-wrong key bytes lens shared a sealer b c e)
 
     -- what turn and write put to the front of an output is read off it
@@ -172,27 +172,27 @@ module _ (key bytes lens : List ℕ) (a : Admits key bytes lens) where
         let count : n ≡ 0 + length s = omega arith in
         ap (λ (k : ℕ). take k (put output 0 s)) count ∙ take-put output 0 s (omega arith)
 
-    add-gave : (A piece : List ℕ) → Gave (book 1 A []) (add piece)
+    add-gave : (A piece : List ℕ) → Gave (modelOf 1 A []) (add piece)
     unfolding modelStep
     add-gave A piece = go (ltb limit (length (A ++ piece))) refl
       where
-        go : (t : Bool) → ltb limit (length (A ++ piece)) ≡ t → Gave (book 1 A []) (add piece)
-        go true e = refused-gave (book 1 A []) (add piece) 4 (simp e)
-        go false e = gave-by (book 1 A []) (add piece) (doneAfter key bytes lens shared a sealer (book 1 A []) (add piece) 0) (simp e) refl
+        go : (t : Bool) → ltb limit (length (A ++ piece)) ≡ t → Gave (modelOf 1 A []) (add piece)
+        go true e = refused-gave (modelOf 1 A []) (add piece) 4 (simp e)
+        go false e = gave-by (modelOf 1 A []) (add piece) (doneAfter key bytes lens shared a sealer (modelOf 1 A []) (add piece) 0) (simp e) refl
 
-    turn-gave : (A output : List ℕ) → Gave (book 1 A []) (turn output)
+    turn-gave : (A output : List ℕ) → Gave (modelOf 1 A []) (turn output)
     unfolding modelStep
     turn-gave A output = go (ltb (length output) 16) refl
       where
-        go : (t : Bool) → ltb (length output) 16 ≡ t → Gave (book 1 A []) (turn output)
-        go true e = refused-gave (book 1 A []) (turn output) 6 (simp e)
+        go : (t : Bool) → ltb (length output) 16 ≡ t → Gave (modelOf 1 A []) (turn output)
+        go true e = refused-gave (modelOf 1 A []) (turn output) 6 (simp e)
         go false e =
             let v : List ℕ = tagOf key (strings bytes lens) A in
-            gave-by (book 1 A []) (turn output) (doneAfter key bytes lens shared a sealer (book 1 A []) (turn output) 0) (simp e)
+            gave-by (modelOf 1 A []) (turn output) (doneAfter key bytes lens shared a sealer (modelOf 1 A []) (turn output) 0) (simp e)
             (read-front output v 16 (length-tag key (strings bytes lens) A) (ltb-false (length output) 16 e)
             ∙ sym (ap (λ (l : List ℕ). v ++ l) (streamed-nil key v) ∙ append-nil v))
 
-    write-gave : (A W piece output : List ℕ) → Gave (book 2 A W) (write piece output)
+    write-gave : (A W piece output : List ℕ) → Gave (modelOf 2 A W) (write piece output)
     unfolding modelStep
     write-gave A W piece output = go (ltb (length A) (length (W ++ piece))) refl (ltb (length output) (length piece)) refl
       where
@@ -208,47 +208,47 @@ module _ (key bytes lens : List ℕ) (a : Admits key bytes lens) where
         joined : streamed key v W ++ rest ≡ streamed key v (W ++ piece)
         joined = ap (λ (l : List ℕ). streamed key v W ++ l) (streamed-rest key v W piece) ∙ sym (streamed-append key v W piece)
 
-        go : (t : Bool) → ltb (length A) (length (W ++ piece)) ≡ t → (u : Bool) → ltb (length output) (length piece) ≡ u → Gave (book 2 A W) (write piece output)
-        go true e u f = refused-gave (book 2 A W) (write piece output) 4 (simp e)
-        go false e true f = refused-gave (book 2 A W) (write piece output) 6 (simp (e, f))
+        go : (t : Bool) → ltb (length A) (length (W ++ piece)) ≡ t → (u : Bool) → ltb (length output) (length piece) ≡ u → Gave (modelOf 2 A W) (write piece output)
+        go true e u f = refused-gave (modelOf 2 A W) (write piece output) 4 (simp e)
+        go false e true f = refused-gave (modelOf 2 A W) (write piece output) 6 (simp (e, f))
         go false e false f =
-            gave-by (book 2 A W) (write piece output) (doneAfter key bytes lens shared a sealer (book 2 A W) (write piece output) 0) (simp (e, f))
+            gave-by (modelOf 2 A W) (write piece output) (doneAfter key bytes lens shared a sealer (modelOf 2 A W) (write piece output) 0) (simp (e, f))
             (ap (λ (l : List ℕ). v ++ streamed key v W ++ l) (read-front output rest (length piece) long (ltb-false (length output) (length piece) f))
             ∙ append-assoc v (streamed key v W) rest
             ∙ ap (λ (l : List ℕ). v ++ l) joined)
 
-    close-gave : (A W : List ℕ) → Gave (book 2 A W) close
+    close-gave : (A W : List ℕ) → Gave (modelOf 2 A W) close
     unfolding modelStep
     close-gave A W = go (ltb (length W) (length A)) refl
       where
-        go : (t : Bool) → ltb (length W) (length A) ≡ t → Gave (book 2 A W) close
-        go true e = refused-gave (book 2 A W) close 9 (simp e)
-        go false e = gave-by (book 2 A W) close (doneAfter key bytes lens shared a sealer (book 2 A W) close 0) (simp e) (append-nil (soFar (book 2 A W)))
+        go : (t : Bool) → ltb (length W) (length A) ≡ t → Gave (modelOf 2 A W) close
+        go true e = refused-gave (modelOf 2 A W) close 9 (simp e)
+        go false e = gave-by (modelOf 2 A W) close (doneAfter key bytes lens shared a sealer (modelOf 2 A W) close 0) (simp e) (append-nil (soFar (modelOf 2 A W)))
 
-    gave-step : (b : Book) (s : Stream) (o : List ℕ) (c : Call) → Known key bytes lens shared sealer b s o → Gave b c
+    gave-step : (b : ModelState) (s : Stream) (o : List ℕ) (c : Call) → Known key bytes lens shared sealer b s o → Gave b c
     gave-step b s o (add piece) (adding A l) = add-gave A piece
     gave-step b s o (turn output) (adding A l) = turn-gave A output
-    gave-step b s o (write piece output) (adding A l) = wrong-gave (book 1 A []) (write piece output) refl
-    gave-step b s o close (adding A l) = wrong-gave (book 1 A []) close refl
-    gave-step b s o (feed piece) (adding A l) = wrong-gave (book 1 A []) (feed piece) refl
-    gave-step b s o finish (adding A l) = wrong-gave (book 1 A []) finish refl
-    gave-step b s o (add piece) (writing A W l w) = wrong-gave (book 2 A W) (add piece) refl
-    gave-step b s o (turn output) (writing A W l w) = wrong-gave (book 2 A W) (turn output) refl
+    gave-step b s o (write piece output) (adding A l) = wrong-gave (modelOf 1 A []) (write piece output) refl
+    gave-step b s o close (adding A l) = wrong-gave (modelOf 1 A []) close refl
+    gave-step b s o (feed piece) (adding A l) = wrong-gave (modelOf 1 A []) (feed piece) refl
+    gave-step b s o finish (adding A l) = wrong-gave (modelOf 1 A []) finish refl
+    gave-step b s o (add piece) (writing A W l w) = wrong-gave (modelOf 2 A W) (add piece) refl
+    gave-step b s o (turn output) (writing A W l w) = wrong-gave (modelOf 2 A W) (turn output) refl
     gave-step b s o (write piece output) (writing A W l w) = write-gave A W piece output
     gave-step b s o close (writing A W l w) = close-gave A W
-    gave-step b s o (feed piece) (writing A W l w) = wrong-gave (book 2 A W) (feed piece) refl
-    gave-step b s o finish (writing A W l w) = wrong-gave (book 2 A W) finish refl
-    gave-step b s o c (closed A W) = wrong-gave (book 0 A W) c (unwanted c)
+    gave-step b s o (feed piece) (writing A W l w) = wrong-gave (modelOf 2 A W) (feed piece) refl
+    gave-step b s o finish (writing A W l w) = wrong-gave (modelOf 2 A W) finish refl
+    gave-step b s o c (closed A W) = wrong-gave (modelOf 0 A W) c (unwanted c)
 
-    gave-run : (calls : List Call) (b : Book) (s : Stream) (o : List ℕ) → Known key bytes lens shared sealer b s o
-        → soFar b ++ gave calls (modelRun key bytes lens sealer shared b calls .entries) ≡ soFar (modelRun key bytes lens sealer shared b calls .book)
+    gave-run : (calls : List Call) (b : ModelState) (s : Stream) (o : List ℕ) → Known key bytes lens shared sealer b s o
+        → soFar b ++ gave calls (modelRun key bytes lens sealer shared b calls .entries) ≡ soFar (modelRun key bytes lens sealer shared b calls .model)
     gave-run [] b s o k = append-nil (soFar b)
     gave-run (c ∷ cs) b s o k =
         let m : After = modelStep key bytes lens sealer shared b c in
-        let rest : List ℕ = gave cs (modelRun key bytes lens sealer shared (m .book) cs .entries) in
+        let rest : List ℕ = gave cs (modelRun key bytes lens sealer shared (m .model) cs .entries) in
         sym (append-assoc (soFar b) (gaveBy c (m .entry)) rest)
         ∙ ap (λ (l : List ℕ). l ++ rest) (gave-step b s o c k)
-        ∙ gave-run cs (m .book) _ _ (step key bytes lens shared a sealer b s o c k .next)
+        ∙ gave-run cs (m .model) _ _ (step key bytes lens shared a sealer b s o c k .next)
 
     -- the first bytes of a sealed string
     sealed-front : (A W : List ℕ) → take (length W) A ≡ W
@@ -268,11 +268,11 @@ module _ (key bytes lens : List ℕ) (a : Admits key bytes lens) where
     as-sealed : (calls : List Call) → AsSealed key bytes lens shared calls
     as-sealed calls =
         let r = runs sealer calls (fresh sealer) (beginSealer key bytes lens .state) shared sealer-known in
-        let b : Book = modelRun key bytes lens sealer shared (fresh sealer) calls .book in
+        let b : ModelState = modelRun key bytes lens sealer shared (fresh sealer) calls .model in
         let joined = ap (gave calls) (r .0) ∙ gave-run calls (fresh sealer) (beginSealer key bytes lens .state) shared sealer-known in
         record { joined = joined; firstBytes = λ e. joined ∙ go b e (eqb (b .stage) 1) }
       where
-        go : (b : Book) → take (length (b .W)) (b .A) ≡ b .W → (t : Bool)
+        go : (b : ModelState) → take (length (b .W)) (b .A) ≡ b .W → (t : Bool)
             → cond t [] (tagOf key (strings bytes lens) (b .A) ++ streamed key (tagOf key (strings bytes lens) (b .A)) (b .W))
             ≡ take (cond t 0 (16 + length (b .W))) (sealed key (strings bytes lens) (b .A))
         go b e true = refl
@@ -281,10 +281,10 @@ module _ (key bytes lens : List ℕ) (a : Admits key bytes lens) where
     -- ---- the first finish
 
     module _ (T : List ℕ) (tagged : length T ≡ 16) where
-      wrong-stays : (b : Book) (c : Call) → b .stage ≡ 3 → eqb (b .stage) (wants c) ≡ false → modelStep key bytes lens (opener T) shared b c .book .stage ≡ 3
-      wrong-stays b c e w = ap (λ (m : After). m .book .stage) (model-wrong key bytes lens shared a (opener T) b c w) ∙ e
+      wrong-stays : (b : ModelState) (c : Call) → b .stage ≡ 3 → eqb (b .stage) (wants c) ≡ false → modelStep key bytes lens (opener T) shared b c .model .stage ≡ 3
+      wrong-stays b c e w = ap (λ (m : After). m .model .stage) (model-wrong key bytes lens shared a (opener T) b c w) ∙ e
 
-      feed-stays : (b : Book) (piece : List ℕ) → b .stage ≡ 3 → modelStep key bytes lens (opener T) shared b (feed piece) .book .stage ≡ 3
+      feed-stays : (b : ModelState) (piece : List ℕ) → b .stage ≡ 3 → modelStep key bytes lens (opener T) shared b (feed piece) .model .stage ≡ 3
       unfolding modelStep
       feed-stays b piece e = go (eqb (modelNumber key bytes lens (opener T) shared b (feed piece)) 0 || eqb (modelNumber key bytes lens (opener T) shared b (feed piece)) 8)
         where
@@ -294,12 +294,12 @@ module _ (key bytes lens : List ℕ) (a : Admits key bytes lens) where
           left : After
           left = refusedAfter key bytes lens shared a (opener T) b (feed piece) (modelNumber key bytes lens (opener T) shared b (feed piece))
 
-          go : (t : Bool) → cond t done left .book .stage ≡ 3
+          go : (t : Bool) → cond t done left .model .stage ≡ 3
           go true = refl
           go false = e
 
       -- an opener stays in stage 3 until a finish
-      stays : (b : Book) (c : Call) → b .stage ≡ 3 → noFinish (c ∷ []) ≡ true → modelStep key bytes lens (opener T) shared b c .book .stage ≡ 3
+      stays : (b : ModelState) (c : Call) → b .stage ≡ 3 → noFinish (c ∷ []) ≡ true → modelStep key bytes lens (opener T) shared b c .model .stage ≡ 3
       stays b (add piece) e n = wrong-stays b (add piece) e (ap (λ (k : ℕ). eqb k 1) e)
       stays b (turn output) e n = wrong-stays b (turn output) e (ap (λ (k : ℕ). eqb k 1) e)
       stays b (write piece output) e n = wrong-stays b (write piece output) e (ap (λ (k : ℕ). eqb k 2) e)
@@ -307,7 +307,7 @@ module _ (key bytes lens : List ℕ) (a : Admits key bytes lens) where
       stays b (feed piece) e n = feed-stays b piece e
       stays b finish e n = absurd (false≢true n)
 
-      stays-run : (calls : List Call) (b : Book) → b .stage ≡ 3 → noFinish calls ≡ true → modelRun key bytes lens (opener T) shared b calls .book .stage ≡ 3
+      stays-run : (calls : List Call) (b : ModelState) → b .stage ≡ 3 → noFinish calls ≡ true → modelRun key bytes lens (opener T) shared b calls .model .stage ≡ 3
       stays-run [] b e n = e
       stays-run (add piece ∷ cs) b e n = stays-run cs _ (stays b (add piece) e refl) n
       stays-run (turn output ∷ cs) b e n = stays-run cs _ (stays b (turn output) e refl) n
@@ -317,7 +317,7 @@ module _ (key bytes lens : List ℕ) (a : Admits key bytes lens) where
       stays-run (finish ∷ cs) b e n = absurd (false≢true n)
 
       -- what is fed lies within the limit and within the output
-      limits : (begin : Begin) (b : Book) (s : Stream) (o : List ℕ) → Known key bytes lens shared begin b s o → b .stage ≡ 3 → (length (b .A) ≤ limit) × (length (b .A) ≤ length shared)
+      limits : (begin : Begin) (b : ModelState) (s : Stream) (o : List ℕ) → Known key bytes lens shared begin b s o → b .stage ≡ 3 → (length (b .A) ≤ limit) × (length (b .A) ≤ length shared)
       limits begin b s o (adding A l) e = absurd (omega (arith, e))
       limits begin b s o (writing A W l w) e = absurd (omega (arith, e))
       limits begin b s o (closed A W) e = absurd (omega (arith, e))
@@ -325,7 +325,7 @@ module _ (key bytes lens : List ℕ) (a : Admits key bytes lens) where
       limits begin b s o (finished T A _ x) e = absurd (omega (arith, e))
 
       -- finish, as the model has it, against whole opening of the tag and all that was fed
-      module _ (b : Book) (at : b .stage ≡ 3) (within : length (b .A) ≤ limit) (roomy : length (b .A) ≤ length shared) (output scratch : List ℕ)
+      module _ (b : ModelState) (at : b .stage ≡ 3) (within : length (b .A) ≤ limit) (roomy : length (b .A) ≤ length shared) (output scratch : List ℕ)
           (large : length (b .A) ≤ length output) (scratchy : scratchNeed (length (b .A)) ≤ length scratch) where
         y : List ℕ
         y = T ++ b .A
@@ -385,13 +385,13 @@ module _ (key bytes lens : List ℕ) (a : Admits key bytes lens) where
           let r = runs (opener T) calls (fresh (opener T)) (beginOpener key bytes lens T .state) shared k in
           let at = stays-run calls (fresh (opener T)) refl none in
           let lim = limits (opener T) _ _ _ (r .1) at in
-          let whole = step key bytes lens shared a (opener T) _ _ _ finish (r .1) .entry ∙ agrees (modelRun key bytes lens (opener T) shared (fresh (opener T)) calls .book) at (lim .0) (lim .1) output scratch large scratchy in
-          record { verdict = ap (λ (e : Entry). e .outcome) whole; plaintext = ap (λ (e : Entry). e .output) whole }
+          let whole = step key bytes lens shared a (opener T) _ _ _ finish (r .1) .entry ∙ agrees (modelRun key bytes lens (opener T) shared (fresh (opener T)) calls .model) at (lim .0) (lim .1) output scratch large scratchy in
+          record { outcome = ap (λ (e : Entry). e .outcome) whole; plaintext = ap (λ (e : Entry). e .output) whole }
 
-pub third : ThirdDemand
-third key bytes lens a =
+pub accepts-the-sealed-and-follows-the-model : ThirdDemand
+accepts-the-sealed-and-follows-the-model key bytes lens a =
     record {
-      whole = λ y output scratch. third-whole key bytes lens y output scratch a;
+      whole = λ y output scratch. accepts-the-sealed key bytes lens y output scratch a;
       sealers = λ shared. as-model key bytes lens a shared sealer _ (sealer-begins key bytes lens a) (sealer-known key bytes lens a shared);
       openers = λ T shared calls t. as-model key bytes lens a shared (opener T) _ (opener-begins key bytes lens a T t) (opener-known key bytes lens a shared T t) calls;
       seals = as-sealed key bytes lens a;

@@ -141,9 +141,9 @@ module _ (key bytes lens y output scratch : List ℕ) where
 
 -- ---- the demands
 
-pub third-whole : (key bytes lens y output scratch : List ℕ) → Admits key bytes lens → length y - 16 ≤ length output → scratchNeed (length y - 16) ≤ length scratch
+pub accepts-the-sealed : (key bytes lens y output scratch : List ℕ) → Admits key bytes lens → length y - 16 ≤ length output → scratchNeed (length y - 16) ≤ length scratch
     → ThirdWhole key bytes lens y output scratch
-third-whole key bytes lens y output scratch a roomy scratchy =
+accepts-the-sealed key bytes lens y output scratch a roomy scratchy =
     record {
       accepts = whole-accepts key bytes lens y output scratch a roomy scratchy;
       accepted = whole-accepted key bytes lens y output scratch a roomy scratchy;
@@ -152,12 +152,12 @@ third-whole key bytes lens y output scratch a roomy scratchy =
       wipes = whole-wipes key bytes lens y output scratch a roomy scratchy;
     }
 
-pub second : Second
-second =
+pub seals-and-reopens : Second
+seals-and-reopens =
     record {
       seals = seal-gives;
       opens = λ key bytes lens p output scratch a l r s.
           let long : length (sealed key (strings bytes lens) p) - 16 ≡ length p = omega (arith, length-sealed key (strings bytes lens) p) in
-          third-whole key bytes lens (sealed key (strings bytes lens) p) output scratch a (subst (λ (n : ℕ). n ≤ length output) (sym long) r)
+          accepts-the-sealed key bytes lens (sealed key (strings bytes lens) p) output scratch a (subst (λ (n : ℕ). n ≤ length output) (sym long) r)
           (subst (λ (n : ℕ). scratchNeed n ≤ length scratch) (sym long) s) .accepted p (l, refl);
     }

@@ -11,12 +11,12 @@ use Rattle.cmac.specs.Cmac.{zeros}
 use Rattle.header.specs.Header.{strings}
 use Rattle.siv.specs.declared.Answer.{Answer}
 use Rattle.siv.specs.Answer.{Row, row, outcomeOf}
-use Rattle.siv.specs.Calls.{Result, scratchNeed, headerRows, sealRows, openRows, sealCall, openCall}
+use Rattle.siv.specs.Calls.{CallResult, scratchNeed, headerRows, sealRows, openRows, sealCall, openCall}
 use Rattle.siv.specs.Siv.{sealed, opened, genuine}
 use Rattle.stream.specs.declared.Stream.{Stream}
 use Rattle.stream.specs.State.{ended, start, added, tagOfState}
-use Rattle.stream.specs.Steps as steps
-use Rattle.kinphlor.specs.Door.{doorLens, door}
+use Rattle.stream.specs.Steps.{StepResult, doneStep, refusedStep, beginSealer, openerRows, beginOpener, addRows, addStep, turnRows, turned, turnStep, writeRows, wrote, streamedAt, writeStep, closeRows, closeStep, feedRows, feedStep, finishRows, finishStep}
+use Rattle.kinphlor.specs.Interface.{aeadLens, fromC}
 
 -- document 01's order of refusals
 abbrev pub order : List ℕ
@@ -36,7 +36,7 @@ pub data FirstDue : List Row → ℕ → Type 0 where
   later : {r : Row} {rs : List Row} {n : ℕ} → r .due ≡ false → FirstDue rs n → FirstDue (r ∷ rs) n
 
 -- a call gave a number and a length, and left these buffers
-abbrev pub Leaves : Result → ℕ → ℕ → List ℕ → List ℕ → Type 0
+abbrev pub Leaves : CallResult → ℕ → ℕ → List ℕ → List ℕ → Type 0
 Leaves result number count output scratch = (result .outcome ≡ record { number = number; count = count }) × (result .output ≡ output) × (result .scratch ≡ scratch)
 
 module _ (key bytes lens input output scratch : List ℕ) where
@@ -74,59 +74,59 @@ module _ (key bytes lens input output scratch : List ℕ) where
 -- ---- the C interface
 
 -- a whole call's rows at the C interface: 10, for an empty nonce, straight after 1
-abbrev pub atDoor : ℕ → List Row → List Row
-atDoor nonce [] = []
-atDoor nonce (r ∷ rs) = r ∷ row 10 (eqb nonce 0) ∷ rs
+abbrev pub rowsFromC : ℕ → List Row → List Row
+rowsFromC nonce [] = []
+rowsFromC nonce (r ∷ rs) = r ∷ row 10 (eqb nonce 0) ∷ rs
 
 -- the interface over a whole call with its table: 10 with all lent memory untouched, or what the call gave
-pub record FirstDoor (table : List Row) (nonce : ℕ) (key output scratch : List ℕ) (call : Result) : Type 0 where
-  pub ordered : keeps order (atDoor nonce table) ≡ true
-  pub first : FirstDue (atDoor nonce table) (door nonce key output scratch call .outcome .number)
-  pub empty : door nonce key output scratch call .outcome .number ≡ 10 → Leaves (door nonce key output scratch call) 10 0 output scratch
-  pub otherwise : (door nonce key output scratch call .outcome .number ≡ 10 → ⊥) → door nonce key output scratch call ≡ call
+pub record FirstFromC (table : List Row) (nonce : ℕ) (key output scratch : List ℕ) (call : CallResult) : Type 0 where
+  pub ordered : keeps order (rowsFromC nonce table) ≡ true
+  pub first : FirstDue (rowsFromC nonce table) (fromC nonce key output scratch call .outcome .number)
+  pub empty : fromC nonce key output scratch call .outcome .number ≡ 10 → Leaves (fromC nonce key output scratch call) 10 0 output scratch
+  pub otherwise : (fromC nonce key output scratch call .outcome .number ≡ 10 → ⊥) → fromC nonce key output scratch call ≡ call
 
 -- ---- piecewise calls
 
 -- a call by its table: a refusal returns state and output as given
-pub record FirstStep (table : List Row) (result complete : steps.Result) (s : Stream) (output : List ℕ) : Type 0 where
+pub record FirstStep (table : List Row) (result complete : StepResult) (s : Stream) (output : List ℕ) : Type 0 where
   pub ordered : keeps order table ≡ true
   pub first : FirstDue table (result .outcome .number)
   pub done : result .outcome .number ≡ 0 → result ≡ complete
-  pub refused : (n : ℕ) → result .outcome .number ≡ n → (n ≡ 0 → ⊥) → result ≡ steps.refusal n s output
+  pub refused : (n : ℕ) → result .outcome .number ≡ n → (n ≡ 0 → ⊥) → result ≡ refusedStep n s output
 
 -- finish's rows
 abbrev pub finishTable : Stream → List ℕ → List Row
-finishTable s output = steps.finishRows s (length output) ++ (row 8 (not (same (tagOfState s) (s .v))) ∷ [])
+finishTable s output = finishRows s (length output) ++ (row 8 (not (same (tagOfState s) (s .v))) ∷ [])
 
 -- finish: 8 ends the state and wipes the output's first total bytes
 pub record FirstFinish (s : Stream) (output : List ℕ) : Type 0 where
   pub ordered : keeps order (finishTable s output) ≡ true
-  pub first : FirstDue (finishTable s output) (steps.finishStep s output .outcome .number)
-  pub done : steps.finishStep s output .outcome .number ≡ 0 → steps.finishStep s output ≡ steps.success (s .total) ended output
-  pub forged : steps.finishStep s output .outcome .number ≡ 8 → steps.finishStep s output ≡ steps.refusal 8 ended (put output 0 (replicate (s .total) 0))
-  pub refused : (n : ℕ) → steps.finishStep s output .outcome .number ≡ n → (n ≡ 0 → ⊥) → (n ≡ 8 → ⊥) → steps.finishStep s output ≡ steps.refusal n s output
+  pub first : FirstDue (finishTable s output) (finishStep s output .outcome .number)
+  pub done : finishStep s output .outcome .number ≡ 0 → finishStep s output ≡ doneStep (s .total) ended output
+  pub forged : finishStep s output .outcome .number ≡ 8 → finishStep s output ≡ refusedStep 8 ended (put output 0 (replicate (s .total) 0))
+  pub refused : (n : ℕ) → finishStep s output .outcome .number ≡ n → (n ≡ 0 → ⊥) → (n ≡ 8 → ⊥) → finishStep s output ≡ refusedStep n s output
 
 -- The first demand, on all input bytes, lengths and stream states; number and length tell an answer.
 pub record First : Type 0 where
   pub sealing : (key bytes lens input output scratch : List ℕ) → FirstSeal key bytes lens input output scratch
   pub opening : (key bytes lens input output scratch : List ℕ) → FirstOpen key bytes lens input output scratch
   pub sealingFromC : (key header input output scratch : List ℕ) (ad nonce : ℕ)
-      → FirstDoor (sealTable key header (doorLens ad nonce) input output scratch) nonce key output scratch (sealCall key header (doorLens ad nonce) input output scratch)
+      → FirstFromC (sealTable key header (aeadLens ad nonce) input output scratch) nonce key output scratch (sealCall key header (aeadLens ad nonce) input output scratch)
   pub openingFromC : (key header input output scratch : List ℕ) (ad nonce : ℕ)
-      → FirstDoor (openTable key header (doorLens ad nonce) input output scratch) nonce key output scratch (openCall key header (doorLens ad nonce) input output scratch)
+      → FirstFromC (openTable key header (aeadLens ad nonce) input output scratch) nonce key output scratch (openCall key header (aeadLens ad nonce) input output scratch)
   pub beginningSealer : (key bytes lens : List ℕ)
-      → FirstStep (headerRows (length key) lens (length bytes)) (steps.beginSealer key bytes lens) (steps.success 0 (start key (strings bytes lens) 1 zeros) []) ended []
+      → FirstStep (headerRows (length key) lens (length bytes)) (beginSealer key bytes lens) (doneStep 0 (start key (strings bytes lens) 1 zeros) []) ended []
   pub beginningOpener : (key bytes lens tag : List ℕ)
-      → FirstStep (steps.openerRows (length key) lens (length bytes) (length tag)) (steps.beginOpener key bytes lens tag) (steps.success 0 (start key (strings bytes lens) 3 tag) []) ended []
-  pub adding : (s : Stream) (piece : List ℕ) → FirstStep (steps.addRows s (length piece)) (steps.addStep s piece) (steps.success 0 (added s piece) []) s []
+      → FirstStep (openerRows (length key) lens (length bytes) (length tag)) (beginOpener key bytes lens tag) (doneStep 0 (start key (strings bytes lens) 3 tag) []) ended []
+  pub adding : (s : Stream) (piece : List ℕ) → FirstStep (addRows s (length piece)) (addStep s piece) (doneStep 0 (added s piece) []) s []
   pub turning : (s : Stream) (output : List ℕ)
-      → FirstStep (steps.turnRows s (length output)) (steps.turnStep s output) (steps.success 16 (steps.turned s (tagOfState s)) (put output 0 (tagOfState s))) s output
+      → FirstStep (turnRows s (length output)) (turnStep s output) (doneStep 16 (turned s (tagOfState s)) (put output 0 (tagOfState s))) s output
   pub writing : (s : Stream) (piece output : List ℕ)
-      → FirstStep (steps.writeRows s (length piece) (length output)) (steps.writeStep s piece output)
-      (steps.success (length piece) (steps.wrote s (length piece)) (put output 0 (steps.streamedAt s (s .written) piece))) s output
-  pub closing : (s : Stream) → FirstStep (steps.closeRows s) (steps.closeStep s) (steps.success 0 ended []) s []
+      → FirstStep (writeRows s (length piece) (length output)) (writeStep s piece output)
+      (doneStep (length piece) (wrote s (length piece)) (put output 0 (streamedAt s (s .written) piece))) s output
+  pub closing : (s : Stream) → FirstStep (closeRows s) (closeStep s) (doneStep 0 ended []) s []
   pub feeding : (s : Stream) (piece output : List ℕ)
-      → FirstStep (steps.feedRows s (length piece) (length output)) (steps.feedStep s piece output)
-      (steps.success (length piece) (added s (steps.streamedAt s (s .total) piece)) (put output (s .total) (steps.streamedAt s (s .total) piece))) s output
+      → FirstStep (feedRows s (length piece) (length output)) (feedStep s piece output)
+      (doneStep (length piece) (added s (streamedAt s (s .total) piece)) (put output (s .total) (streamedAt s (s .total) piece))) s output
   pub finishing : (s : Stream) (output : List ℕ) → FirstFinish s output
   pub told : (a b : Answer) → outcomeOf a ≡ outcomeOf b → a ≡ b

@@ -13,13 +13,13 @@ use Rattle.siv.specs.Siv.{tagOf, streamed, opened}
 use Rattle.demands.specs.Run.{Begin, sealer, opener, Call, add, turn, write, close, feed, finish, Entry}
 
 -- what the model keeps: a stage, A, the bytes added or fed, and W, those written
-pub record Book : Type 0 where
+pub record ModelState : Type 0 where
   pub stage : ℕ
   pub A : List ℕ
   pub W : List ℕ
 
 -- "1 or 3 at first", and both strings empty
-abbrev pub fresh : Begin → Book
+abbrev pub fresh : Begin → ModelState
 fresh sealer = record { stage = 1; A = []; W = [] }
 fresh (opener T) = record { stage = 3; A = []; W = [] }
 
@@ -32,15 +32,15 @@ wants close = 2
 wants (feed piece) = 3
 wants finish = 3
 
--- the book and what a call gave
+-- what the model keeps after a call, and what the call gave
 pub record After : Type 0 where
-  pub book : Book
+  pub model : ModelState
   pub entry : Entry
 
--- what a list of calls gave and the book after it
+-- what a list of calls gave, and what the model keeps after it
 pub record ModelRun : Type 0 where
   pub entries : List Entry
-  pub book : Book
+  pub model : ModelState
 
 -- begin's arguments but for the opener's tag
 module _ (key bytes lens : List ℕ) where
@@ -55,14 +55,14 @@ module _ (key bytes lens : List ℕ) where
   -- which begin, and the output shared by feed and finish as it was at first
   module _ (begin : Begin) (shared : List ℕ) where
     -- the shared output: the opener's starts with A xor the key stream of T in stage 3; after finish, with the plaintext for 0, and with zeros as long as A for 8
-    abbrev pub shownBy : Begin → Book → List ℕ
+    abbrev pub shownBy : Begin → ModelState → List ℕ
     shownBy sealer b = shared
     shownBy (opener T) b =
         cond (eqb (b .stage) 3) (put shared 0 (streamed key T (b .A)))
         (put shared 0 (cond (accepts T (b .A)) (opened key (T ++ b .A)) (replicate (length (b .A)) 0)))
 
     -- the same, of the list's own begin
-    abbrev pub shown : Book → List ℕ
+    abbrev pub shown : ModelState → List ℕ
     shown b = shownBy begin b
 
     -- whether finish accepts; a sealer has no stage that finish wants
@@ -71,7 +71,7 @@ module _ (key bytes lens : List ℕ) where
     acceptsBy (opener T) A = accepts T A
 
     -- the refusals of a call in the stage that it wants
-    abbrev pub refusals : Book → Call → List Row
+    abbrev pub refusals : ModelState → Call → List Row
     refusals b (add piece) = row 4 (ltb limit (length (b .A ++ piece))) ∷ []
     refusals b (turn output) = row 6 (ltb (length output) 16) ∷ []
     refusals b (write piece output) = row 4 (ltb (length (b .A)) (length (b .W ++ piece))) ∷ row 6 (ltb (length output) (length piece)) ∷ []
@@ -79,17 +79,17 @@ module _ (key bytes lens : List ℕ) where
     refusals b (feed piece) = row 4 (ltb limit (length (b .A ++ piece))) ∷ row 6 (ltb (length shared) (length (b .A ++ piece))) ∷ []
     refusals b finish = row 8 (not (acceptsBy begin (b .A))) ∷ []
 
-    -- the book after success, and after 8
-    abbrev pub bookAfter : Book → Call → Book
-    bookAfter b (add piece) = record { stage = 1; A = b .A ++ piece; W = b .W }
-    bookAfter b (turn output) = record { stage = 2; A = b .A; W = b .W }
-    bookAfter b (write piece output) = record { stage = 2; A = b .A; W = b .W ++ piece }
-    bookAfter b close = record { stage = 0; A = b .A; W = b .W }
-    bookAfter b (feed piece) = record { stage = 3; A = b .A ++ piece; W = b .W }
-    bookAfter b finish = record { stage = 0; A = b .A; W = b .W }
+    -- what the model keeps after success, and after 8
+    abbrev pub modelAfter : ModelState → Call → ModelState
+    modelAfter b (add piece) = record { stage = 1; A = b .A ++ piece; W = b .W }
+    modelAfter b (turn output) = record { stage = 2; A = b .A; W = b .W }
+    modelAfter b (write piece output) = record { stage = 2; A = b .A; W = b .W ++ piece }
+    modelAfter b close = record { stage = 0; A = b .A; W = b .W }
+    modelAfter b (feed piece) = record { stage = 3; A = b .A ++ piece; W = b .W }
+    modelAfter b finish = record { stage = 0; A = b .A; W = b .W }
 
     -- the length of success
-    abbrev pub countAfter : Book → Call → ℕ
+    abbrev pub countAfter : ModelState → Call → ℕ
     countAfter b (add piece) = 0
     countAfter b (turn output) = 16
     countAfter b (write piece output) = length piece
@@ -98,7 +98,7 @@ module _ (key bytes lens : List ℕ) where
     countAfter b finish = length (b .A)
 
     -- the output lent to a call, before it; add and close are lent none
-    abbrev pub outputBefore : Book → Call → List ℕ
+    abbrev pub outputBefore : ModelState → Call → List ℕ
     outputBefore b (add piece) = []
     outputBefore b (turn output) = output
     outputBefore b (write piece output) = output
@@ -107,32 +107,32 @@ module _ (key bytes lens : List ℕ) where
     outputBefore b finish = shown b
 
     -- and after success or 8: turn gives the tag of sealing A, and the writes' bytes, joined, are W xor the key stream of that tag
-    abbrev pub outputAfter : Book → Call → List ℕ
+    abbrev pub outputAfter : ModelState → Call → List ℕ
     outputAfter b (add piece) = []
     outputAfter b (turn output) = put output 0 (sealTag (b .A))
     outputAfter b (write piece output) = put output 0 (drop (length (b .W)) (streamed key (sealTag (b .A)) (b .W ++ piece)))
     outputAfter b close = []
-    outputAfter b (feed piece) = shown (bookAfter b (feed piece))
-    outputAfter b finish = shown (bookAfter b finish)
+    outputAfter b (feed piece) = shown (modelAfter b (feed piece))
+    outputAfter b finish = shown (modelAfter b finish)
 
     -- the number that a call gives: 9 in a stage that it does not want, else by its refusals
-    abbrev pub modelNumber : Book → Call → ℕ
+    abbrev pub modelNumber : ModelState → Call → ℕ
     modelNumber b c = first (row 9 (not (eqb (b .stage) (wants c))) ∷ refusals b c)
 
-    -- a call: a refusal has length 0 and, but for 8, changes neither book nor outputs
-    unfoldable pub modelStep : Book → Call → After
+    -- a call: a refusal has length 0 and, but for 8, changes neither what the model keeps nor outputs
+    unfoldable pub modelStep : ModelState → Call → After
     modelStep b c =
         let n = modelNumber b c in
         cond (eqb n 0 || eqb n 8)
         (record {
-          book = bookAfter b c;
+          model = modelAfter b c;
           entry = record { outcome = record { number = n; count = cond (eqb n 0) (countAfter b c) 0 }; output = outputAfter b c };
         })
-        (record { book = b; entry = record { outcome = verdict n; output = outputBefore b c } })
+        (record { model = b; entry = record { outcome = verdict n; output = outputBefore b c } })
 
-    abbrev pub modelRun : Book → List Call → ModelRun
-    modelRun b [] = record { entries = []; book = b }
+    abbrev pub modelRun : ModelState → List Call → ModelRun
+    modelRun b [] = record { entries = []; model = b }
     modelRun b (c ∷ cs) =
         let a = modelStep b c in
-        let rest = modelRun (a .book) cs in
-        record { entries = a .entry ∷ rest .entries; book = rest .book }
+        let rest = modelRun (a .model) cs in
+        record { entries = a .entry ∷ rest .entries; model = rest .model }

@@ -4,7 +4,7 @@ use mathlib.Core.List.{List, [], _∷_}
 use Prim.Native.Nat.{ℕ}
 use Rattle.siv.specs.Answer.{Outcome}
 use Rattle.stream.specs.declared.Stream.{Stream}
-use Rattle.stream.specs.Steps.{Result, beginSealer, beginOpener, addStep, turnStep, writeStep, closeStep, feedStep, finishStep}
+use Rattle.stream.specs.Steps.{StepResult, beginSealer, beginOpener, addStep, turnStep, writeStep, closeStep, feedStep, finishStep}
 
 -- which begin a list of calls starts from; the opener's has a tag
 pub data Begin : Type 0 where
@@ -21,12 +21,12 @@ pub data Call : Type 0 where
   finish : Call
 
 -- what begin gave
-abbrev pub begun : Begin → List ℕ → List ℕ → List ℕ → Result
+abbrev pub begun : Begin → List ℕ → List ℕ → List ℕ → StepResult
 begun sealer key bytes lens = beginSealer key bytes lens
 begun (opener T) key bytes lens = beginOpener key bytes lens T
 
 -- what a call gives on a state, with the shared output
-abbrev pub call : Stream → List ℕ → Call → Result
+abbrev pub call : Stream → List ℕ → Call → StepResult
 call s shared (add piece) = addStep s piece
 call s shared (turn output) = turnStep s output
 call s shared (write piece output) = writeStep s piece output

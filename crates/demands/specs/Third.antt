@@ -1,4 +1,4 @@
--- The third demand as one statement: whole opening accepts exactly what sealing gives, and every list of piecewise calls behaves as the model, the plain book of document 01.
+-- The third demand as one statement: whole opening accepts exactly what sealing gives, and every list of piecewise calls behaves as the reference model.
 -- Assumes nothing.
 use mathlib.Core.Path.{_≡_}
 use mathlib.Core.Bool.{Bool, true, false, cond}
@@ -12,12 +12,12 @@ use Rattle.siv.specs.Calls.{scratchNeed, openCall}
 use Rattle.siv.specs.Siv.{streamed, sealed}
 use Rattle.stream.specs.State.{ended}
 use Rattle.stream.specs.Steps.{finishStep}
-use Rattle.demands.specs.Model.{Book, fresh, ModelRun, sealTag, shown, modelRun}
+use Rattle.demands.specs.Model.{ModelState, fresh, ModelRun, sealTag, shown, modelRun}
 use Rattle.demands.specs.Run.{Begin, sealer, opener, Call, add, turn, write, close, feed, finish, begun, Entry, Run, run}
 use Rattle.demands.specs.Whole.{Admits, success, ThirdWhole}
 
 -- the same bytes in one piece: one add of A in stage 1; one add of A, turn and one write of W in stage 2; one feed of A in stage 3
-abbrev pub onePiece : Book → List Call
+abbrev pub onePiece : ModelState → List Call
 onePiece b =
     cond (eqb (b .stage) 1) (add (b .A) ∷ [])
     (cond (eqb (b .stage) 2) (add (b .A) ∷ turn (replicate 16 0) ∷ write (b .W) (b .W) ∷ []) (feed (b .A) ∷ []))
@@ -54,23 +54,23 @@ module _ (key bytes lens : List ℕ) where
     ran = run (begun begin key bytes lens .state) shared calls
 
     -- what the model says
-    abbrev pub told : ModelRun
-    told = modelRun key bytes lens begin shared (fresh begin) calls
+    abbrev pub expected : ModelRun
+    expected = modelRun key bytes lens begin shared (fresh begin) calls
 
     pub record AsModel : Type 0 where
       -- begin succeeds
       pub begins : begun begin key bytes lens .outcome ≡ success 0
       -- all numbers, lengths and output bytes are the model's
-      pub entries : ran .entries ≡ told .entries
-      pub output : ran .shared ≡ shown key bytes lens begin shared (told .book)
+      pub entries : ran .entries ≡ expected .entries
+      pub output : ran .shared ≡ shown key bytes lens begin shared (expected .model)
       -- the state is that of the same bytes given in one piece; in stage 0 it is all zero
       pub state : ran .state
-          ≡ cond (eqb (told .book .stage) 0) ended (run (begun begin key bytes lens .state) shared (onePiece (told .book)) .state)
+          ≡ cond (eqb (expected .model .stage) 0) ended (run (begun begin key bytes lens .state) shared (onePiece (expected .model)) .state)
 
   -- a sealer's list of calls
   module _ (shared : List ℕ) (calls : List Call) where
-    abbrev pub sealerBook : Book
-    sealerBook = told sealer shared calls .book
+    abbrev pub sealerModel : ModelState
+    sealerModel = expected sealer shared calls .model
 
     abbrev pub sealerGave : List ℕ
     sealerGave = gave calls (ran sealer shared calls .entries)
@@ -78,21 +78,21 @@ module _ (key bytes lens : List ℕ) where
     pub record AsSealed : Type 0 where
       -- turn gave the tag of sealing A, and the accepted writes' bytes, joined, are W xor the key stream of that tag
       pub joined : sealerGave
-          ≡ cond (eqb (sealerBook .stage) 1) []
-          (sealTag key bytes lens (sealerBook .A) ++ streamed key (sealTag key bytes lens (sealerBook .A)) (sealerBook .W))
+          ≡ cond (eqb (sealerModel .stage) 1) []
+          (sealTag key bytes lens (sealerModel .A) ++ streamed key (sealTag key bytes lens (sealerModel .A)) (sealerModel .W))
       -- what turn and the writes gave is the first bytes of sealing all that was added, if the writes brought its first bytes again
-      pub firstBytes : take (length (sealerBook .W)) (sealerBook .A) ≡ sealerBook .W
-          → sealerGave ≡ take (cond (eqb (sealerBook .stage) 1) 0 (16 + length (sealerBook .W))) (sealed key (strings bytes lens) (sealerBook .A))
+      pub firstBytes : take (length (sealerModel .W)) (sealerModel .A) ≡ sealerModel .W
+          → sealerGave ≡ take (cond (eqb (sealerModel .stage) 1) 0 (16 + length (sealerModel .W))) (sealed key (strings bytes lens) (sealerModel .A))
 
   -- all that was fed to an opener
   abbrev pub fed : List ℕ → List ℕ → List Call → List ℕ
-  fed T shared calls = told (opener T) shared calls .book .A
+  fed T shared calls = expected (opener T) shared calls .model .A
 
   -- an opener's list of calls without a finish, then the first finish; and whole opening of the tag and all that was fed, with buffers large enough
   module _ (T shared : List ℕ) (calls : List Call) (output scratch : List ℕ) where
     pub record AsOpened : Type 0 where
       -- finish gives the number and the length of whole opening
-      pub verdict : finishStep (ran (opener T) shared calls .state) (ran (opener T) shared calls .shared) .outcome
+      pub outcome : finishStep (ran (opener T) shared calls .state) (ran (opener T) shared calls .shared) .outcome
           ≡ openCall key bytes lens (T ++ fed T shared calls) output scratch .outcome
       -- and its plaintext or zeros, and nothing else
       pub plaintext : finishStep (ran (opener T) shared calls .state) (ran (opener T) shared calls .shared) .output

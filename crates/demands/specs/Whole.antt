@@ -8,7 +8,7 @@ use lib.ListN.{length, replicate}
 use Rattle.octets.specs.Octets.{put}
 use Rattle.header.specs.Header.{total, strings}
 use Rattle.siv.specs.Answer.{Outcome, verdict}
-use Rattle.siv.specs.Calls.{Result, isKeyLength, limit, scratchNeed, sealCall, openCall}
+use Rattle.siv.specs.Calls.{CallResult, isKeyLength, limit, scratchNeed, sealCall, openCall}
 use Rattle.siv.specs.Siv.{sealed}
 
 -- a key and a header list that document 01 admits
@@ -22,7 +22,7 @@ abbrev pub success : ℕ → Outcome
 success n = record { number = 0; count = n }
 
 -- a call succeeded and put s, and nothing else, to the front of the output
-abbrev pub Gives : Result → List ℕ → List ℕ → Type 0
+abbrev pub Gives : CallResult → List ℕ → List ℕ → Type 0
 Gives result output s = (result .outcome ≡ success (length s)) × (result .output ≡ put output 0 s)
 
 -- The second demand: sealing gives the bytes of RFC 5297 over FIPS 197's AES, and opening returns the plaintext that was sealed.

@@ -10,10 +10,10 @@ use Rattle.siv.specs.declared.Refusal.{Refusal}
 use Rattle.siv.specs.declared.Refusal.the-variants.{KeyLength, HeaderCount, HeaderLengths, TooLong, SealedLength, OutputShort, ScratchShort, Forged, State, EmptyNonce}
 use Rattle.siv.specs.declared.Answer.{Answer}
 use Rattle.siv.specs.Answer.{Outcome, numberOf, outcomeOf, verdict}
-use Rattle.siv.specs.Calls.{Result, Did}
-use Rattle.kinphlor.specs.Door.{word, emptyNonce, door, DidWord}
+use Rattle.siv.specs.Calls.{CallResult, DidCall}
+use Rattle.kinphlor.specs.Interface.{packed, emptyNonce, fromC, DidPacked}
 
--- a refusal's number is small, so that its word fits
+-- a refusal's number is small, so that an answer fits in one number
 pub number-most : (r : Refusal) → numberOf r ≤ 10
 number-most KeyLength = omega arith
 number-most HeaderCount = omega arith
@@ -26,12 +26,12 @@ number-most Forged = omega arith
 number-most State = omega arith
 number-most EmptyNonce = omega arith
 
-module _ (nonce : ℕ) (key output scratch : List ℕ) (call : Result) where
-  pub door-refused : {r : ℕ} → emptyNonce (length key) nonce ≡ true → r ≡ word (verdict 10) → DidWord (door nonce key output scratch call) r output scratch
-  unfolding door
-  door-refused e p = record { answer = simp e p; output = simp e; scratch = simp e }
+module _ (nonce : ℕ) (key output scratch : List ℕ) (call : CallResult) where
+  pub nonce-refused : {r : ℕ} → emptyNonce (length key) nonce ≡ true → r ≡ packed (verdict 10) → DidPacked (fromC nonce key output scratch call) r output scratch
+  unfolding fromC
+  nonce-refused e p = record { answer = simp e p; output = simp e; scratch = simp e }
 
-  pub door-call : {r : ℕ} {a : Answer} {output′ scratch′ : List ℕ} → emptyNonce (length key) nonce ≡ false → Did call a output′ scratch′ → r ≡ word (outcomeOf a)
-      → DidWord (door nonce key output scratch call) r output′ scratch′
-  unfolding door
-  door-call e d p = record { answer = simp e (p ∙ ap (λ (o : Outcome). word o) (d .outcome)); output = simp e (d .output); scratch = simp e (d .scratch) }
+  pub call-packed : {r : ℕ} {a : Answer} {output′ scratch′ : List ℕ} → emptyNonce (length key) nonce ≡ false → DidCall call a output′ scratch′ → r ≡ packed (outcomeOf a)
+      → DidPacked (fromC nonce key output scratch call) r output′ scratch′
+  unfolding fromC
+  call-packed e d p = record { answer = simp e (p ∙ ap (λ (o : Outcome). packed o) (d .outcome)); output = simp e (d .output); scratch = simp e (d .scratch) }

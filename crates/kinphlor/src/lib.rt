@@ -1,8 +1,7 @@
 // The C interface: whole sealing and opening over byte slices, with associated data and nonce as the header list.
 ghost use mathlib.Core.Path.{_≡_};
 ghost use Rattle.siv.specs.Answer.{numberOf, outcomeOf};
-ghost use Rattle.siv.specs.Calls.{sealCall, openCall};
-ghost use Rattle.kinphlor.specs.Door.{doorLens, word, emptyNonce, door, DidWord};
+ghost use Rattle.kinphlor.specs.Interface.{packed, emptyNonce, sealFromC, openFromC, PerformsFromC};
 use siv::Answer;
 use siv::Refusal;
 
@@ -26,10 +25,10 @@ fn number(r: Refusal) -> u64
 
 // An answer as one number: its number times 2 to the power 32, plus its length.
 pub fn pack(a: Answer) -> u64
-    ensures { λ n. ⌜ n ≡ word (outcomeOf a) ⌝ }
+    ensures { λ n. ⌜ n ≡ packed (outcomeOf a) ⌝ }
 {
     match a {
-        Answer::Done(n) => n as u64,
+        Answer::Ok(n) => n as u64,
         Answer::Refused(r) => number(r) * 4294967296,
     }
 }
@@ -55,7 +54,7 @@ pub extern "C" fn kinphlor_seal(
     output: &mut [u8],
     scratch: &mut [u8],
 ) -> u64
-    ensures { λ r. ⌜ DidWord (door «nonce_len» (now (key .entry)) (now (output .entry)) (now (scratch .entry)) (sealCall (now (key .entry)) (now (header .entry)) (doorLens «ad_len» «nonce_len») (now (input .entry)) (now (output .entry)) (now (scratch .entry)))) r (now (output .exit)) (now (scratch .exit)) ⌝ }
+    ensures { λ r. ⌜ PerformsFromC sealFromC key header «ad_len» «nonce_len» input output scratch r ⌝ }
 {
     if empty_nonce(key.len(), nonce_len) {
         return pack(Answer::Refused(Refusal::EmptyNonce));
@@ -75,7 +74,7 @@ pub extern "C" fn kinphlor_open(
     output: &mut [u8],
     scratch: &mut [u8],
 ) -> u64
-    ensures { λ r. ⌜ DidWord (door «nonce_len» (now (key .entry)) (now (output .entry)) (now (scratch .entry)) (openCall (now (key .entry)) (now (header .entry)) (doorLens «ad_len» «nonce_len») (now (input .entry)) (now (output .entry)) (now (scratch .entry)))) r (now (output .exit)) (now (scratch .exit)) ⌝ }
+    ensures { λ r. ⌜ PerformsFromC openFromC key header «ad_len» «nonce_len» input output scratch r ⌝ }
 {
     if empty_nonce(key.len(), nonce_len) {
         return pack(Answer::Refused(Refusal::EmptyNonce));

@@ -19,11 +19,11 @@ use Rattle.aes.specs.KeyExpansion.{roundKeys}
 use Rattle.header.specs.Header.{total, strings}
 use Rattle.ctr.proofs.Laws.{length-xorStream}
 use Rattle.siv.specs.declared.Answer.{Answer}
-use Rattle.siv.specs.declared.Answer.the-variants.{Done, Refused}
+use Rattle.siv.specs.declared.Answer.the-variants.{Ok, Refused}
 use Rattle.siv.specs.declared.Refusal.{Refusal}
 use Rattle.siv.specs.declared.Refusal.the-variants.{KeyLength, HeaderCount, HeaderLengths, TooLong, SealedLength, OutputShort, ScratchShort, Forged, State, EmptyNonce}
 use Rattle.siv.specs.Answer.{Outcome, Row, row, first, numberOf, outcomeOf, verdict}
-use Rattle.siv.specs.Calls.{isKeyLength, limit, scratchNeed, headerRows, openRows, Did, sealNumber, sealCall, openNumber, openCall}
+use Rattle.siv.specs.Calls.{isKeyLength, limit, scratchNeed, headerRows, openRows, DidCall, sealNumber, sealCall, openNumber, openCall}
 use Rattle.siv.specs.Siv.{streamed, sealed, opened, genuine}
 use Rattle.siv.proofs.Answer.{the-type}
 
@@ -99,11 +99,11 @@ refusal-number EmptyNonce e = omega arith
 
 -- what a match tells of an answer: 0 and 1 are the places of its cases
 pub told-refused : (a : Answer) → OneOf (1 ∷ []) (tagOf the-type a) → outcomeOf a .number ≡ 0 → ⊥
-told-refused (Done n) k e = let z : _≡_ {A = ℕ} 0 1 = k in omega arith
+told-refused (Ok n) k e = let z : _≡_ {A = ℕ} 0 1 = k in omega arith
 told-refused (Refused r) k e = refusal-number r e
 
 pub told-done : (a : Answer) → OneOf (0 ∷ []) (tagOf the-type a) → outcomeOf a .number ≡ 0
-told-done (Done n) k = refl
+told-done (Ok n) k = refl
 told-done (Refused r) k = let z : _≡_ {A = ℕ} 1 0 = k in absurd (omega arith)
 
 -- past a judgement none was due
@@ -159,7 +159,7 @@ module _ (key bytes lens input output scratch : List ℕ) where
       }
 
   pub seal-refused : (answer : Answer) → (outcomeOf answer .number ≡ 0 → ⊥) → outcomeOf answer ≡ verdict (sealNumber key bytes lens input output scratch)
-      → Did (sealCall key bytes lens input output scratch) answer output scratch
+      → DidCall (sealCall key bytes lens input output scratch) answer output scratch
   unfolding sealCall
   seal-refused answer k e =
       let number = sealNumber key bytes lens input output scratch in
@@ -168,7 +168,7 @@ module _ (key bytes lens input output scratch : List ℕ) where
 
   pub seal-done : (output′ scratch′ : List ℕ) → sealNumber key bytes lens input output scratch ≡ 0
       → output′ ≡ put output 0 (sealed key (strings bytes lens) input) → scratch′ ≡ put scratch 0 (replicate (scratchNeed (length input)) 0)
-      → Did (sealCall key bytes lens input output scratch) (Done (length input + 16)) output′ scratch′
+      → DidCall (sealCall key bytes lens input output scratch) (Ok (length input + 16)) output′ scratch′
   unfolding sealCall
   seal-done output′ scratch′ e p q = record { outcome = simp e; output = simp e p; scratch = simp e q }
 
@@ -262,7 +262,7 @@ module _ (key bytes lens input output scratch : List ℕ) where
   not-eight e = first-not 8 rows refl (λ q. omega arith) e
 
   pub open-refused : (answer : Answer) → (outcomeOf answer .number ≡ 0 → ⊥) → outcomeOf answer ≡ verdict openJudged
-      → Did (openCall key bytes lens input output scratch) answer output scratch
+      → DidCall (openCall key bytes lens input output scratch) answer output scratch
   unfolding openCall number
   open-refused answer k e =
       let due : openJudged ≡ 0 → ⊥ = λ z. k (ap (λ (o : Outcome). o .number) e ∙ z) in
@@ -272,14 +272,14 @@ module _ (key bytes lens input output scratch : List ℕ) where
 
   module _ (output′ scratch′ : List ℕ) (judged : openJudged ≡ 0) (wiped : scratch′ ≡ put scratch 0 (replicate (scratchNeed (length input - 16)) 0)) where
     pub open-done : genuine key (strings bytes lens) input ≡ true → output′ ≡ put output 0 (opened key input)
-        → Did (openCall key bytes lens input output scratch) (Done (length input - 16)) output′ scratch′
+        → DidCall (openCall key bytes lens input output scratch) (Ok (length input - 16)) output′ scratch′
     unfolding openCall number
     open-done g p =
         let none : number ≡ 0 = passes judged ∙ ap (λ (b : Bool). cond (not b) 8 0) g in
         record { outcome = simp none; output = simp none p; scratch = simp none wiped }
 
     pub open-forged : genuine key (strings bytes lens) input ≡ false → output′ ≡ put output 0 (replicate (length input - 16) 0)
-        → Did (openCall key bytes lens input output scratch) (Refused Forged) output′ scratch′
+        → DidCall (openCall key bytes lens input output scratch) (Refused Forged) output′ scratch′
     unfolding openCall number
     open-forged g p =
         let eight : number ≡ 8 = passes judged ∙ ap (λ (b : Bool). cond (not b) 8 0) g in

@@ -6,7 +6,7 @@ use Prim.Native.Nat.{ℕ}
 use Rattle.siv.specs.declared.Refusal.{Refusal}
 use Rattle.siv.specs.declared.Refusal.the-variants.{KeyLength, HeaderCount, HeaderLengths, TooLong, SealedLength, OutputShort, ScratchShort, Forged, State, EmptyNonce}
 use Rattle.siv.specs.declared.Answer.{Answer}
-use Rattle.siv.specs.declared.Answer.the-variants.{Done, Refused}
+use Rattle.siv.specs.declared.Answer.the-variants.{Ok, Refused}
 
 -- the number and the length that a call returns
 pub record Outcome : Type 0 where
@@ -28,7 +28,7 @@ numberOf EmptyNonce = 10
 
 -- every answer's number and length
 abbrev pub outcomeOf : Answer → Outcome
-outcomeOf (Done n) = record { number = 0; count = n }
+outcomeOf (Ok n) = record { number = 0; count = n }
 outcomeOf (Refused r) = record { number = numberOf r; count = 0 }
 
 -- a refusal with the condition under which it is due

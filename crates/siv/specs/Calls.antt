@@ -1,11 +1,13 @@
 -- Whole sealing and opening on every input: number, length and the last contents of each lent buffer, from document 01.
 -- Assumes nothing.
 use mathlib.Core.Path.{_≡_}
-use mathlib.Core.Bool.{Bool, not, cond, _||_}
+use mathlib.Core.Bool.{Bool, true, not, cond, _||_}
 use mathlib.Core.List.{List, [], _∷_, _++_}
-use Prim.Native.Nat.{ℕ, _+_, _-_, max}
+use Prim.Native.Nat.{ℕ, _+_, _-_, _≤_, max}
 use lib.Dec.{ltb, eqb}
 use lib.ListN.{length, replicate}
+use denote.Ref.{RefT, now}
+use denote.Triple.Both.{Both}
 use Rattle.octets.specs.Octets.{put}
 use Rattle.header.specs.Header.{total, strings}
 use Rattle.siv.specs.declared.Answer.{Answer}
@@ -38,14 +40,18 @@ abbrev pub openRows : ℕ → ℕ → ℕ → List Row
 openRows y output scratch =
     row 5 (ltb y 16) ∷ row 4 (ltb (limit + 16) y) ∷ row 6 (ltb output (y - 16)) ∷ row 7 (ltb scratch (scratchNeed (y - 16))) ∷ []
 
+-- what the refusals of key and header list leave to work with
+abbrev pub Admitted : List ℕ → List ℕ → List ℕ → Type 0
+Admitted key bytes lens = (isKeyLength (length key) ≡ true) × (total lens ≤ length bytes)
+
 -- everything that a whole call does: number and length, and the last contents of output and scratch
-pub record Result : Type 0 where
+pub record CallResult : Type 0 where
   pub outcome : Outcome
   pub output : List ℕ
   pub scratch : List ℕ
 
 -- a call gave what its definition says
-pub record Did (result : Result) (answer : Answer) (lastOutput lastScratch : List ℕ) : Type 0 where
+pub record DidCall (result : CallResult) (answer : Answer) (lastOutput lastScratch : List ℕ) : Type 0 where
   pub outcome : outcomeOf answer ≡ result .outcome
   pub output : lastOutput ≡ result .output
   pub scratch : lastScratch ≡ result .scratch
@@ -56,7 +62,7 @@ module _ (key bytes lens input output scratch : List ℕ) where
   sealNumber = first (headerRows (length key) lens (length bytes) ++ sealRows (length input) (length output) (length scratch))
 
   -- sealing: input is the plaintext
-  unfoldable pub sealCall : Result
+  unfoldable pub sealCall : CallResult
   sealCall =
       let n = length input in
       let done = eqb sealNumber 0 in
@@ -74,7 +80,7 @@ module _ (key bytes lens input output scratch : List ℕ) where
       ++ (row 8 (not (genuine key (strings bytes lens) input)) ∷ []))
 
   -- opening: input is the sealed string
-  unfoldable pub openCall : Result
+  unfoldable pub openCall : CallResult
   openCall =
       let n = length input - 16 in
       let done = eqb openNumber 0 in
@@ -84,3 +90,13 @@ module _ (key bytes lens input output scratch : List ℕ) where
         output = cond done (put output 0 (opened key input)) (cond forged (put output 0 (replicate n 0)) output);
         scratch = cond (done || forged) (put scratch 0 (replicate (scratchNeed n) 0)) scratch;
       }
+
+-- a lent slice, as it came (`entry`) and as it is left (`exit`)
+abbrev pub Lent : Type 0
+Lent = Both (RefT (List ℕ)) (RefT (List ℕ))
+
+-- what a whole call promises: with what the lent slices held at entry, its answer and what output and scratch hold at exit are the definition's
+abbrev pub Performs : (List ℕ → List ℕ → List ℕ → List ℕ → List ℕ → List ℕ → CallResult) → Lent → Lent → Lent → Lent → Lent → Lent → Answer → Type 0
+Performs call key header lens input output scratch answer =
+    DidCall (call (now (key .entry)) (now (header .entry)) (now (lens .entry)) (now (input .entry)) (now (output .entry)) (now (scratch .entry))) answer
+    (now (output .exit)) (now (scratch .exit))

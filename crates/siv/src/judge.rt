@@ -6,6 +6,7 @@ ghost use Rattle.siv.specs.Calls.{scratchNeed, headerRows, sealRows, ope
 use crate::Answer;
 use crate::LIMIT;
 use crate::Refusal;
+use crate::TAG_LEN;
 
 // The scratch that a plaintext of n bytes needs.
 pub(crate) fn scratch_need(n: usize) -> usize
@@ -28,7 +29,7 @@ pub fn judge_header(key_len: usize, lens: &[u32], header_len: usize) -> Answer
         return Answer::Refused(Refusal::HeaderCount);
     }
     if header::sums_to(lens, header_len) {
-        return Answer::Done(0);
+        return Answer::Ok(0);
     }
     Answer::Refused(Refusal::HeaderLengths)
 }
@@ -40,13 +41,13 @@ fn judge_plaintext(n: usize, output: usize, scratch: usize) -> Answer
     if LIMIT < n {
         return Answer::Refused(Refusal::TooLong);
     }
-    if output < n + 16 {
+    if output < n + TAG_LEN {
         return Answer::Refused(Refusal::OutputShort);
     }
     if scratch < scratch_need(n) {
         return Answer::Refused(Refusal::ScratchShort);
     }
-    Answer::Done(0)
+    Answer::Ok(0)
 }
 
 // The refusals of sealing.
@@ -71,19 +72,19 @@ pub(crate) fn judge_seal(
 fn judge_sealed(y: usize, output: usize, scratch: usize) -> Answer
     ensures { λ r. ⌜ outcomeOf r ≡ verdict (first (openRows y output scratch)) ⌝ }
 {
-    if y < 16 {
+    if y < TAG_LEN {
         return Answer::Refused(Refusal::SealedLength);
     }
-    if LIMIT + 16 < y {
+    if LIMIT + TAG_LEN < y {
         return Answer::Refused(Refusal::TooLong);
     }
-    if output < y - 16 {
+    if output < y - TAG_LEN {
         return Answer::Refused(Refusal::OutputShort);
     }
-    if scratch < scratch_need(y - 16) {
+    if scratch < scratch_need(y - TAG_LEN) {
         return Answer::Refused(Refusal::ScratchShort);
     }
-    Answer::Done(0)
+    Answer::Ok(0)
 }
 
 // The refusals of opening but for a forged string.

@@ -3,10 +3,13 @@ pub mod judge;
 mod work;
 
 ghost use mathlib.Core.Path.{_≡_};
-ghost use Rattle.siv.specs.Calls.{isKeyLength, Did, sealCall, openCall};
+ghost use Rattle.siv.specs.Calls.{isKeyLength, sealCall, openCall, Performs};
 
 // The longest plaintext.
 pub const LIMIT: usize = 1048576;
+
+// The length of a tag.
+pub const TAG_LEN: usize = 16;
 
 // Why a call is refused, in the order of the numbers.
 pub enum Refusal {
@@ -34,7 +37,7 @@ pub enum Refusal {
 
 // Success with a count of bytes, or a refusal.
 pub enum Answer {
-    Done(usize),
+    Ok(usize),
     Refused(Refusal),
 }
 
@@ -60,7 +63,7 @@ pub fn seal(
     output: &mut [u8],
     scratch: &mut [u8],
 ) -> Answer
-    ensures { λ r. ⌜ Did (sealCall (now (key .entry)) (now (header .entry)) (now (lens .entry)) (now (input .entry)) (now (output .entry)) (now (scratch .entry))) r (now (output .exit)) (now (scratch .exit)) ⌝ }
+    ensures { λ r. ⌜ Performs sealCall key header lens input output scratch r ⌝ }
 {
     let n = input.len();
     let verdict = judge::judge_seal(
@@ -76,7 +79,7 @@ pub fn seal(
     }
     work::seal_admitted(key, header, lens, input, output);
     octets::zero_at(scratch, 0, judge::scratch_need(n));
-    Answer::Done(n + 16)
+    Answer::Ok(n + TAG_LEN)
 }
 
 // Opens a sealed string under a key and a header list: the plaintext to the front of output, once it is approved.
@@ -88,7 +91,7 @@ pub fn open(
     output: &mut [u8],
     scratch: &mut [u8],
 ) -> Answer
-    ensures { λ r. ⌜ Did (openCall (now (key .entry)) (now (header .entry)) (now (lens .entry)) (now (input .entry)) (now (output .entry)) (now (scratch .entry))) r (now (output .exit)) (now (scratch .exit)) ⌝ }
+    ensures { λ r. ⌜ Performs openCall key header lens input output scratch r ⌝ }
 {
     let y = input.len();
     let verdict = judge::judge_open(
@@ -102,11 +105,11 @@ pub fn open(
     if let Answer::Refused(_) = verdict {
         return verdict;
     }
-    let n = y - 16;
+    let n = y - TAG_LEN;
     if work::open_admitted(key, header, lens, input, scratch) {
         octets::copy_at(output, 0, &scratch[0..n]);
         octets::zero_at(scratch, 0, judge::scratch_need(n));
-        return Answer::Done(n);
+        return Answer::Ok(n);
     }
     octets::zero_at(output, 0, n);
     octets::zero_at(scratch, 0, judge::scratch_need(n));

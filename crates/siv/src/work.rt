@@ -8,8 +8,9 @@ ghost use Rattle.aes.specs.Cipher.{cipher};
 ghost use Rattle.aes.specs.Engine.{Ready};
 ghost use Rattle.header.specs.Header.{total, strings};
 ghost use Rattle.s2v.specs.S2v.{s2v};
-ghost use Rattle.siv.specs.Calls.{isKeyLength};
+ghost use Rattle.siv.specs.Calls.{isKeyLength, Admitted};
 ghost use Rattle.siv.specs.Siv.{tagOf, streamed, sealed, opened, genuine};
+use crate::TAG_LEN;
 use aes::Engine;
 use aes::RoundKeys;
 use octets::Block;
@@ -33,7 +34,7 @@ fn tag_under(
 
 // The tag of a header list and a plaintext.
 fn tag_of(engine: &Engine, key: &[u8], header: &[u8], lens: &[u32], p: &[u8]) -> Block
-    requires { ⌜ Ready (now engine) × (isKeyLength (length (now key)) ≡ true) × (total (now lens) ≤ length (now header)) ⌝ }
+    requires { ⌜ Ready (now engine) × Admitted (now key) (now header) (now lens) ⌝ }
     ensures { λ r. ⌜ r ≡ tagOf (now (key .entry)) (strings (now (header .entry)) (now (lens .entry))) (now (p .entry)) ⌝ }
 {
     let width = key.len() / 2;
@@ -59,13 +60,13 @@ pub(crate) fn seal_admitted(
     input: &[u8],
     output: &mut [u8],
 )
-    requires { ⌜ (isKeyLength (length (now key)) ≡ true) × (total (now lens) ≤ length (now header)) × (16 + length (now input) ≤ length (now output)) ⌝ }
+    requires { ⌜ Admitted (now key) (now header) (now lens) × (16 + length (now input) ≤ length (now output)) ⌝ }
     ensures { λ _. ⌜ now (output .exit) ≡ put (now (output .entry)) 0 (sealed (now (key .entry)) (strings (now (header .entry)) (now (lens .entry))) (now (input .entry))) ⌝ }
 {
     let engine = aes::engine();
     let v = tag_of(&engine, key, header, lens, input);
     octets::store(output, 0, v);
-    stream(&engine, key, v, input, output, 16);
+    stream(&engine, key, v, input, output, TAG_LEN);
 }
 
 // Opens to the front of scratch, and says whether the recomputed tag is the given one.
@@ -76,13 +77,14 @@ pub(crate) fn open_admitted(
     sealed: &[u8],
     scratch: &mut [u8],
 ) -> bool
-    requires { ⌜ (isKeyLength (length (now key)) ≡ true) × (total (now lens) ≤ length (now header)) × (16 ≤ length (now sealed)) × (length (now sealed) ≤ 16 + length (now scratch)) ⌝ }
-    ensures { λ r. ⌜ (r ≡ genuine (now (key .entry)) (strings (now (header .entry)) (now (lens .entry))) (now (sealed .entry))) × (now (scratch .exit) ≡ put (now (scratch .entry)) 0 (opened (now (key .entry)) (now (sealed .entry)))) ⌝ }
+    requires { ⌜ Admitted (now key) (now header) (now lens) × (16 ≤ length (now sealed)) × (length (now sealed) ≤ 16 + length (now scratch)) ⌝ }
+    ensures judged { λ r. ⌜ r ≡ genuine (now (key .entry)) (strings (now (header .entry)) (now (lens .entry))) (now (sealed .entry)) ⌝ }
+    ensures text { λ _. ⌜ now (scratch .exit) ≡ put (now (scratch .entry)) 0 (opened (now (key .entry)) (now (sealed .entry))) ⌝ }
 {
     let engine = aes::engine();
-    let n = sealed.len() - 16;
+    let n = sealed.len() - TAG_LEN;
     let v = octets::load(sealed, 0);
-    stream(&engine, key, v, &sealed[16..], scratch, 0);
+    stream(&engine, key, v, &sealed[TAG_LEN..], scratch, 0);
     let t = tag_of(&engine, key, header, lens, &scratch[0..n]);
     octets::same_block(t, v)
 }

@@ -44,7 +44,7 @@ fn refused_at(key: &[u8], header: &[u8], lens: &[u32], sealed: &[u8], i: usize) 
     let answer = siv::open(key, header, lens, &damaged[0..n], &mut output, &mut scratch);
     let wiped = zeros(&output[0..n - 16]);
     match answer {
-        Answer::Done(_) => false,
+        Answer::Ok(_) => false,
         Answer::Refused(r) => match r {
             Refusal::Forged => wiped,
             _ => false,

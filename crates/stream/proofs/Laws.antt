@@ -23,7 +23,7 @@ use Rattle.s2v.specs.S2v.{tailLength, headerResult}
 use Rattle.s2v.proofs.Laws.{Tail, tail, tail-short, tail-long}
 use Rattle.ctr.proofs.Laws.{length-xorStream}
 use Rattle.siv.specs.declared.Answer.{Answer}
-use Rattle.siv.specs.declared.Answer.the-variants.{Done, Refused}
+use Rattle.siv.specs.declared.Answer.the-variants.{Ok, Refused}
 use Rattle.siv.specs.declared.Refusal.the-variants.{Forged}
 use Rattle.siv.specs.Answer.{Outcome, Row, row, first, outcomeOf, verdict}
 use Rattle.siv.specs.Calls.{isKeyLength, limit, headerRows}
@@ -32,7 +32,7 @@ use Rattle.siv.proofs.Laws.{not-due, first-not, first-pass, first-stop}
 use Rattle.stream.specs.declared.Step.{Step}
 use Rattle.stream.specs.declared.Stream.{Stream}
 use Rattle.stream.specs.State.{allZero, writtenLimit, fits, passedBlocks, tailOf, added, ended, start, tagOfState}
-use Rattle.stream.specs.Steps.{Result, Did, success, refusal, settle, openerRows, streamedAt, finishStep, addRows, turnRows, writeRows, feedRows, finishRows}
+use Rattle.stream.specs.Steps.{StepResult, DidStep, doneStep, refusedStep, settle, openerRows, streamedAt, finishStep, addRows, turnRows, writeRows, feedRows, finishRows}
 
 -- ---- parts of two joined strings
 
@@ -108,16 +108,16 @@ fit wanted s e =
 
 -- ---- the calls' results
 
-pub refused : (a : Answer) (n : ℕ) (done : Result) (s : Stream) (output : List ℕ) → (outcomeOf a .number ≡ 0 → ⊥) → outcomeOf a ≡ verdict n
-    → Did (settle n done s output) (record { answer = a; state = s }) output
+pub refused : (a : Answer) (n : ℕ) (done : StepResult) (s : Stream) (output : List ℕ) → (outcomeOf a .number ≡ 0 → ⊥) → outcomeOf a ≡ verdict n
+    → DidStep (settle n done s output) (record { answer = a; state = s }) output
 refused a n done s output k e =
     let off : eqb n 0 ≡ false = ne-eqb n 0 (λ z. k (ap (λ (o : Outcome). o .number) e ∙ z)) in
-    subst (λ (t : Bool). Did (cond t done (refusal n s output)) (record { answer = a; state = s }) output) (sym off)
+    subst (λ (t : Bool). DidStep (cond t done (refusedStep n s output)) (record { answer = a; state = s }) output) (sym off)
     (record { outcome = e; state = refl; output = refl })
 
-pub done : (n : ℕ) (result : Result) (s : Stream) (output : List ℕ) {step : Step} {last : List ℕ} → n ≡ 0 → Did result step last → Did (settle n result s output) step last
+pub done : (n : ℕ) (result : StepResult) (s : Stream) (output : List ℕ) {step : Step} {last : List ℕ} → n ≡ 0 → DidStep result step last → DidStep (settle n result s output) step last
 done n result s output {step} {last} e d =
-    subst (λ (t : Bool). Did (cond t result (refusal n s output)) step last) (sym (eq-eqb n 0 e)) d
+    subst (λ (t : Bool). DidStep (cond t result (refusedStep n s output)) step last) (sym (eq-eqb n 0 e)) d
 
 -- ---- the tail
 
@@ -281,28 +281,28 @@ module _ (s : Stream) (output : List ℕ) where
   number = first (finishRows s (length output) ++ (row 8 (not (same (tagOfState s) (s .v))) ∷ []))
 
   pub finish-refused : (a : Answer) → (outcomeOf a .number ≡ 0 → ⊥) → outcomeOf a ≡ verdict (first (finishRows s (length output)))
-      → Did (finishStep s output) (record { answer = a; state = s }) output
+      → DidStep (finishStep s output) (record { answer = a; state = s }) output
   unfolding finishStep judged forgery number
   finish-refused a k e =
       let due : first judged ≡ 0 → ⊥ = λ z. k (ap (λ (o : Outcome). o .number) e ∙ z) in
       let stops : number ≡ first judged = first-stop judged forgery due in
       let off8 : eqb number 8 ≡ false = ne-eqb number 8 (λ z. first-not 8 judged refl (λ z. omega arith) (sym stops ∙ z)) in
-      let d = refused a number (success (s .total) ended output) s output k (e ∙ ap verdict (sym stops)) in
-      subst (λ (t : Bool). Did (cond t (refusal 8 ended (put output 0 (replicate (s .total) 0))) (settle number (success (s .total) ended output) s output)) (record { answer = a; state = s }) output) (sym off8) d
+      let d = refused a number (doneStep (s .total) ended output) s output k (e ∙ ap verdict (sym stops)) in
+      subst (λ (t : Bool). DidStep (cond t (refusedStep 8 ended (put output 0 (replicate (s .total) 0))) (settle number (doneStep (s .total) ended output) s output)) (record { answer = a; state = s }) output) (sym off8) d
 
   module _ {state : Stream} (none : first (finishRows s (length output)) ≡ 0) (ends : state ≡ ended) where
     by-tag : number ≡ cond (not (same (tagOfState s) (s .v))) 8 0
     unfolding judged forgery number
     by-tag = first-pass judged forgery refl none
 
-    pub finish-done : same (tagOfState s) (s .v) ≡ true → Did (finishStep s output) (record { answer = Done (s .total); state = state }) output
+    pub finish-done : same (tagOfState s) (s .v) ≡ true → DidStep (finishStep s output) (record { answer = Ok (s .total); state = state }) output
     unfolding finishStep number
     finish-done g =
         let zero : number ≡ 0 = by-tag ∙ ap (λ (t : Bool). cond (not t) 8 0) g in
         record { outcome = simp zero; state = simp zero ends; output = simp zero }
 
     pub finish-forged : (last : List ℕ) → same (tagOfState s) (s .v) ≡ false → last ≡ put output 0 (replicate (s .total) 0)
-        → Did (finishStep s output) (record { answer = Refused Forged; state = state }) last
+        → DidStep (finishStep s output) (record { answer = Refused Forged; state = state }) last
     unfolding finishStep number
     finish-forged last g p =
         let eight : number ≡ 8 = by-tag ∙ ap (λ (t : Bool). cond (not t) 8 0) g in
@@ -310,10 +310,10 @@ module _ (s : Stream) (output : List ℕ) where
 
 -- ---- begin
 
-pub begin-refused : (a : Answer) (n : ℕ) (result : Result) {state : Stream} → (outcomeOf a .number ≡ 0 → ⊥) → outcomeOf a ≡ verdict n → state ≡ ended
-    → Did (settle n result ended []) (record { answer = a; state = state }) []
+pub begin-refused : (a : Answer) (n : ℕ) (result : StepResult) {state : Stream} → (outcomeOf a .number ≡ 0 → ⊥) → outcomeOf a ≡ verdict n → state ≡ ended
+    → DidStep (settle n result ended []) (record { answer = a; state = state }) []
 begin-refused a n result {state} k e ends =
-    subst (λ (s : Stream). Did (settle n result ended []) (record { answer = a; state = s }) []) (sym ends) (refused a n result ended [] k e)
+    subst (λ (s : Stream). DidStep (settle n result ended []) (record { answer = a; state = s }) []) (sym ends) (refused a n result ended [] k e)
 
 module _ (keyLength : ℕ) (lens : List ℕ) (headerLength : ℕ) where
   pub header-admits : first (headerRows keyLength lens headerLength) ≡ 0 → (isKeyLength keyLength ≡ true) × (total lens ≤ headerLength)

@@ -69,9 +69,9 @@ fits wanted s =
     && not (ltb (writtenLimit wanted (s .total)) (s .written))
     && allZero (drop (tailLength (s .total)) (s .tail))
 
--- the bytes that wait for the plaintext's end: the used bytes of the tail
-abbrev pub held : Stream → List ℕ
-held s = take (tailLength (s .total)) (s .tail)
+-- the used bytes of the tail, which wait for the plaintext's end: "held bytes" of document 01
+abbrev pub usedTail : Stream → List ℕ
+usedTail s = take (tailLength (s .total)) (s .tail)
 
 -- a tail with these used bytes, its others zero
 abbrev pub tailOf : List ℕ → List ℕ
@@ -93,13 +93,13 @@ added s piece =
       «ctr_keys» = s .«ctr_keys»;
       l = s .l;
       d = s .d;
-      chain = chain (cipher (s .width) (s .«mac_keys»)) (s .chain) (held s ++ piece) n;
+      chain = chain (cipher (s .width) (s .«mac_keys»)) (s .chain) (usedTail s ++ piece) n;
       v = s .v;
       total = total;
       written = s .written;
-      tail = tailOf (drop (16 * n) (held s ++ piece));
+      tail = tailOf (drop (16 * n) (usedTail s ++ piece));
     }
 
 -- V of all that was added
 unfoldable pub tagOfState : Stream → List ℕ
-tagOfState s = tagFrom (cipher (s .width) (s .«mac_keys»)) (subkeys (s .l)) (s .d) (s .chain) (held s)
+tagOfState s = tagFrom (cipher (s .width) (s .«mac_keys»)) (subkeys (s .l)) (s .d) (s .chain) (usedTail s)

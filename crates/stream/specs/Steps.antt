@@ -18,33 +18,33 @@ use Rattle.stream.specs.declared.Stream.{Stream}
 use Rattle.stream.specs.State.{ended, start, fits, added, tagOfState}
 
 -- everything that a call does; a call that is lent no output has the empty one
-pub record Result : Type 0 where
+pub record StepResult : Type 0 where
   pub outcome : Outcome
   pub state : Stream
   pub output : List ℕ
 
 -- a call gave what its definition says
-pub record Did (result : Result) (step : Step) (lastOutput : List ℕ) : Type 0 where
+pub record DidStep (result : StepResult) (step : Step) (lastOutput : List ℕ) : Type 0 where
   pub outcome : outcomeOf (step .answer) ≡ result .outcome
   pub state : step .state ≡ result .state
   pub output : lastOutput ≡ result .output
 
-abbrev pub success : ℕ → Stream → List ℕ → Result
-success n s output = record { outcome = record { number = 0; count = n }; state = s; output = output }
+abbrev pub doneStep : ℕ → Stream → List ℕ → StepResult
+doneStep n s output = record { outcome = record { number = 0; count = n }; state = s; output = output }
 
-abbrev pub refusal : ℕ → Stream → List ℕ → Result
-refusal n s output = record { outcome = verdict n; state = s; output = output }
+abbrev pub refusedStep : ℕ → Stream → List ℕ → StepResult
+refusedStep n s output = record { outcome = verdict n; state = s; output = output }
 
 -- the result of a call whose rows give a number: success, or the refusal with state and output as given
-abbrev pub settle : ℕ → Result → Stream → List ℕ → Result
-settle n done s output = cond (eqb n 0) done (refusal n s output)
+abbrev pub settle : ℕ → StepResult → Stream → List ℕ → StepResult
+settle n done s output = cond (eqb n 0) done (refusedStep n s output)
 
 -- ---- begin
 
 -- the sealer's: a refusal returns the ended state
-unfoldable pub beginSealer : List ℕ → List ℕ → List ℕ → Result
+unfoldable pub beginSealer : List ℕ → List ℕ → List ℕ → StepResult
 beginSealer key bytes lens =
-    settle (first (headerRows (length key) lens (length bytes))) (success 0 (start key (strings bytes lens) 1 zeros) []) ended []
+    settle (first (headerRows (length key) lens (length bytes))) (doneStep 0 (start key (strings bytes lens) 1 zeros) []) ended []
 
 -- a tag has 16 bytes
 abbrev pub tagRows : ℕ → List Row
@@ -55,9 +55,9 @@ abbrev pub openerRows : ℕ → List ℕ → ℕ → ℕ → List Row
 openerRows keyLength lens headerLength tagLength = headerRows keyLength lens headerLength ++ tagRows tagLength
 
 -- the opener's, with a tag
-unfoldable pub beginOpener : List ℕ → List ℕ → List ℕ → List ℕ → Result
+unfoldable pub beginOpener : List ℕ → List ℕ → List ℕ → List ℕ → StepResult
 beginOpener key bytes lens tag =
-    settle (first (openerRows (length key) lens (length bytes) (length tag))) (success 0 (start key (strings bytes lens) 3 tag) []) ended []
+    settle (first (openerRows (length key) lens (length bytes) (length tag))) (doneStep 0 (start key (strings bytes lens) 3 tag) []) ended []
 
 -- ---- the sealer's calls
 
@@ -65,8 +65,8 @@ abbrev pub addRows : Stream → ℕ → List Row
 addRows s piece = row 9 (not (fits 1 s)) ∷ row 4 (ltb limit (s .total + piece)) ∷ []
 
 -- add a piece
-unfoldable pub addStep : Stream → List ℕ → Result
-addStep s piece = settle (first (addRows s (length piece))) (success 0 (added s piece) []) s []
+unfoldable pub addStep : Stream → List ℕ → StepResult
+addStep s piece = settle (first (addRows s (length piece))) (doneStep 0 (added s piece) []) s []
 
 abbrev pub turnRows : Stream → ℕ → List Row
 turnRows s output = row 9 (not (fits 1 s)) ∷ row 6 (ltb output 16) ∷ []
@@ -89,10 +89,10 @@ turned s v =
     }
 
 -- turn: V goes to the first 16 bytes of the output
-unfoldable pub turnStep : Stream → List ℕ → Result
+unfoldable pub turnStep : Stream → List ℕ → StepResult
 turnStep s output =
     let v = tagOfState s in
-    settle (first (turnRows s (length output))) (success 16 (turned s v) (put output 0 v)) s output
+    settle (first (turnRows s (length output))) (doneStep 16 (turned s v) (put output 0 v)) s output
 
 abbrev pub writeRows : Stream → ℕ → ℕ → List Row
 writeRows s piece output = row 9 (not (fits 2 s)) ∷ row 4 (ltb (s .total) (s .written + piece)) ∷ row 6 (ltb output piece) ∷ []
@@ -119,17 +119,17 @@ unfoldable pub streamedAt : Stream → ℕ → List ℕ → List ℕ
 streamedAt s place piece = xorStream (cipher (s .width) (s .«ctr_keys»)) (s .v) place piece
 
 -- write a piece: its ciphertext goes to the front of the output
-unfoldable pub writeStep : Stream → List ℕ → List ℕ → Result
+unfoldable pub writeStep : Stream → List ℕ → List ℕ → StepResult
 writeStep s piece output =
     let c = streamedAt s (s .written) piece in
-    settle (first (writeRows s (length piece) (length output))) (success (length piece) (wrote s (length piece)) (put output 0 c)) s output
+    settle (first (writeRows s (length piece) (length output))) (doneStep (length piece) (wrote s (length piece)) (put output 0 c)) s output
 
 abbrev pub closeRows : Stream → List Row
 closeRows s = row 9 (not (fits 2 s && not (ltb (s .written) (s .total)))) ∷ []
 
 -- close
-unfoldable pub closeStep : Stream → Result
-closeStep s = settle (first (closeRows s)) (success 0 ended []) s []
+unfoldable pub closeStep : Stream → StepResult
+closeStep s = settle (first (closeRows s)) (doneStep 0 ended []) s []
 
 -- ---- the opener's calls
 
@@ -137,17 +137,17 @@ abbrev pub feedRows : Stream → ℕ → ℕ → List Row
 feedRows s piece output = row 9 (not (fits 3 s)) ∷ row 4 (ltb limit (s .total + piece)) ∷ row 6 (ltb output (s .total + piece)) ∷ []
 
 -- feed a piece: its plaintext goes to the output at offset total, and is added
-unfoldable pub feedStep : Stream → List ℕ → List ℕ → Result
+unfoldable pub feedStep : Stream → List ℕ → List ℕ → StepResult
 feedStep s piece output =
     let p = streamedAt s (s .total) piece in
-    settle (first (feedRows s (length piece) (length output))) (success (length piece) (added s p) (put output (s .total) p)) s output
+    settle (first (feedRows s (length piece) (length output))) (doneStep (length piece) (added s p) (put output (s .total) p)) s output
 
 -- the refusals of finish but for a forged string
 abbrev pub finishRows : Stream → ℕ → List Row
 finishRows s output = row 9 (not (fits 3 s)) ∷ row 6 (ltb output (s .total)) ∷ []
 
 -- finish: the verdict; a forged string's plaintext is wiped, and the state is ended either way
-unfoldable pub finishStep : Stream → List ℕ → Result
+unfoldable pub finishStep : Stream → List ℕ → StepResult
 finishStep s output =
     let number = first (finishRows s (length output) ++ (row 8 (not (same (tagOfState s) (s .v))) ∷ [])) in
-    cond (eqb number 8) (refusal 8 ended (put output 0 (replicate (s .total) 0))) (settle number (success (s .total) ended output) s output)
+    cond (eqb number 8) (refusedStep 8 ended (put output 0 (replicate (s .total) 0))) (settle number (doneStep (s .total) ended output) s output)

@@ -77,7 +77,7 @@ pub(crate) fn judge_opener(
         return answer;
     }
     if tag_len == Stream::TAG_LEN {
-        return Answer::Done(0);
+        return Answer::Ok(0);
     }
     Answer::Refused(Refusal::SealedLength)
 }
@@ -92,7 +92,7 @@ pub(crate) fn judge_add(s: Stream, n: usize) -> Answer
     if passes(Stream::LIMIT, s.total, n) {
         return Answer::Refused(Refusal::TooLong);
     }
-    Answer::Done(0)
+    Answer::Ok(0)
 }
 
 // The refusals of turn.
@@ -105,7 +105,7 @@ pub(crate) fn judge_turn(s: Stream, output: usize) -> Answer
     if output < Stream::TAG_LEN {
         return Answer::Refused(Refusal::OutputShort);
     }
-    Answer::Done(0)
+    Answer::Ok(0)
 }
 
 // The refusals of write.
@@ -121,7 +121,7 @@ pub(crate) fn judge_write(s: Stream, n: usize, output: usize) -> Answer
     if output < n {
         return Answer::Refused(Refusal::OutputShort);
     }
-    Answer::Done(0)
+    Answer::Ok(0)
 }
 
 // Whether close is due: a state in stage 2 that has written all that was added.
@@ -150,7 +150,7 @@ pub(crate) fn judge_feed(s: Stream, n: usize, output: usize) -> Answer
     if output < s.total + n {
         return Answer::Refused(Refusal::OutputShort);
     }
-    Answer::Done(0)
+    Answer::Ok(0)
 }
 
 // The refusals of finish but for a forged string.
@@ -163,5 +163,5 @@ pub(crate) fn judge_finish(s: Stream, output: usize) -> Answer
     if output < s.total {
         return Answer::Refused(Refusal::OutputShort);
     }
-    Answer::Done(0)
+    Answer::Ok(0)
 }

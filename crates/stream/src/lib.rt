@@ -1,10 +1,10 @@
 // Piecewise sealing and opening: a stream state goes in by value and comes back with the answer.
-mod hold;
 mod judge;
+mod tail;
 mod work;
 
 ghost use mathlib.Core.List.{[]};
-ghost use Rattle.stream.specs.Steps.{Did, beginSealer, beginOpener, addStep, turnStep, writeStep, closeStep, feedStep, finishStep};
+ghost use Rattle.stream.specs.Steps.{DidStep, beginSealer, beginOpener, addStep, turnStep, writeStep, closeStep, feedStep, finishStep};
 use aes::RoundKeys;
 use octets::Block;
 use siv::Answer;
@@ -47,13 +47,13 @@ pub struct Step {
 
 impl Stream {
     // The length of a tag.
-    pub const TAG_LEN: usize = 16;
+    pub const TAG_LEN: usize = siv::TAG_LEN;
     // The longest plaintext.
     pub const LIMIT: usize = siv::LIMIT;
 
     // A sealer's state from a key and a header list.
     pub fn begin_sealer(key: &[u8], header: &[u8], lens: &[u32]) -> Step
-        ensures { λ r. ⌜ Did (beginSealer (now (key .entry)) (now (header .entry)) (now (lens .entry))) r [] ⌝ }
+        ensures { λ r. ⌜ DidStep (beginSealer (now (key .entry)) (now (header .entry)) (now (lens .entry))) r [] ⌝ }
     {
         let verdict = siv::judge::judge_header(key.len(), lens, header.len());
         if let Answer::Refused(_) = verdict {
@@ -63,14 +63,14 @@ impl Stream {
             };
         }
         Step {
-            answer: Answer::Done(0),
+            answer: Answer::Ok(0),
             state: work::start(key, header, lens, 1, [0u8; 16]),
         }
     }
 
     // An opener's state from a key, a header list and a tag.
     pub fn begin_opener(key: &[u8], header: &[u8], lens: &[u32], tag: &[u8]) -> Step
-        ensures { λ r. ⌜ Did (beginOpener (now (key .entry)) (now (header .entry)) (now (lens .entry)) (now (tag .entry))) r [] ⌝ }
+        ensures { λ r. ⌜ DidStep (beginOpener (now (key .entry)) (now (header .entry)) (now (lens .entry)) (now (tag .entry))) r [] ⌝ }
     {
         let verdict = judge::judge_opener(key.len(), lens, header.len(), tag.len());
         if let Answer::Refused(_) = verdict {
@@ -80,14 +80,14 @@ impl Stream {
             };
         }
         Step {
-            answer: Answer::Done(0),
+            answer: Answer::Ok(0),
             state: work::start(key, header, lens, 3, octets::load(tag, 0)),
         }
     }
 
     // Adds a piece of plaintext.
     pub fn add(self, piece: &[u8]) -> Step
-        ensures { λ r. ⌜ Did (addStep self (now (piece .entry))) r [] ⌝ }
+        ensures { λ r. ⌜ DidStep (addStep self (now (piece .entry))) r [] ⌝ }
     {
         let verdict = judge::judge_add(self, piece.len());
         if let Answer::Refused(_) = verdict {
@@ -97,14 +97,14 @@ impl Stream {
             };
         }
         Step {
-            answer: Answer::Done(0),
-            state: hold::absorb(self, piece),
+            answer: Answer::Ok(0),
+            state: tail::absorb(self, piece),
         }
     }
 
     // Ends the adding: V goes to the first 16 bytes of output.
     pub fn turn(mut self, output: &mut [u8]) -> Step
-        ensures { λ r. ⌜ Did (turnStep self (now (output .entry))) r (now (output .exit)) ⌝ }
+        ensures { λ r. ⌜ DidStep (turnStep self (now (output .entry))) r (now (output .exit)) ⌝ }
     {
         let verdict = judge::judge_turn(self, output.len());
         if let Answer::Refused(_) = verdict {
@@ -118,14 +118,14 @@ impl Stream {
         self.stage = 2;
         self.v = v;
         Step {
-            answer: Answer::Done(16),
+            answer: Answer::Ok(Self::TAG_LEN),
             state: self,
         }
     }
 
     // Writes a piece's ciphertext to the front of output.
     pub fn write(mut self, piece: &[u8], output: &mut [u8]) -> Step
-        ensures { λ r. ⌜ Did (writeStep self (now (piece .entry)) (now (output .entry))) r (now (output .exit)) ⌝ }
+        ensures { λ r. ⌜ DidStep (writeStep self (now (piece .entry)) (now (output .entry))) r (now (output .exit)) ⌝ }
     {
         let n = piece.len();
         let verdict = judge::judge_write(self, n, output.len());
@@ -138,18 +138,18 @@ impl Stream {
         work::stream_at(self, self.written, piece, output, 0);
         self.written = self.written + n;
         Step {
-            answer: Answer::Done(n),
+            answer: Answer::Ok(n),
             state: self,
         }
     }
 
     // Ends a sealer that has written all that was added.
     pub fn close(self) -> Step
-        ensures { λ r. ⌜ Did (closeStep self) r [] ⌝ }
+        ensures { λ r. ⌜ DidStep (closeStep self) r [] ⌝ }
     {
         if judge::closes(self) {
             return Step {
-                answer: Answer::Done(0),
+                answer: Answer::Ok(0),
                 state: work::ended(),
             };
         }
@@ -161,7 +161,7 @@ impl Stream {
 
     // Feeds a piece of ciphertext: its plaintext, which nobody has approved yet, goes to output at offset total.
     pub fn feed(self, piece: &[u8], output: &mut [u8]) -> Step
-        ensures { λ r. ⌜ Did (feedStep self (now (piece .entry)) (now (output .entry))) r (now (output .exit)) ⌝ }
+        ensures { λ r. ⌜ DidStep (feedStep self (now (piece .entry)) (now (output .entry))) r (now (output .exit)) ⌝ }
     {
         let n = piece.len();
         let verdict = judge::judge_feed(self, n, output.len());
@@ -174,14 +174,14 @@ impl Stream {
         let at = self.total;
         work::stream_at(self, at, piece, output, at);
         Step {
-            answer: Answer::Done(n),
-            state: hold::absorb(self, &output[at..at + n]),
+            answer: Answer::Ok(n),
+            state: tail::absorb(self, &output[at..at + n]),
         }
     }
 
     // Gives the verdict on all that was fed: the plaintext in output is approved, or it is wiped.
     pub fn finish(self, output: &mut [u8]) -> Step
-        ensures { λ r. ⌜ Did (finishStep self (now (output .entry))) r (now (output .exit)) ⌝ }
+        ensures { λ r. ⌜ DidStep (finishStep self (now (output .entry))) r (now (output .exit)) ⌝ }
     {
         let verdict = judge::judge_finish(self, output.len());
         if let Answer::Refused(_) = verdict {
@@ -194,7 +194,7 @@ impl Stream {
         let v = self.v;
         if octets::same_block(work::tag_of_state(self), v) {
             return Step {
-                answer: Answer::Done(total),
+                answer: Answer::Ok(total),
                 state: work::ended(),
             };
         }

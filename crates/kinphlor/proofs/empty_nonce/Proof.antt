@@ -2,7 +2,7 @@
 -- Assumes nothing.
 use borrow.Author.Needs.{needs}
 use mathlib.Core.Path.{sym, _∙_}
-use Rattle.kinphlor.specs.Door.{emptyNonce}
+use Rattle.kinphlor.specs.Interface.{emptyNonce}
 use Rattle.kinphlor.proofs.empty_nonce.Statement.{statement}
 use Rattle.kinphlor.proofs.empty_nonce.Tie as tie
 

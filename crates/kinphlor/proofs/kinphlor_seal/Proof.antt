@@ -2,7 +2,7 @@
 -- Assumes nothing.
 use borrow.Author.Needs.{needs}
 use mathlib.Core.Path.{sym, _∙_}
-use Rattle.kinphlor.proofs.Laws.{door-refused, door-call}
+use Rattle.kinphlor.proofs.Laws.{nonce-refused, call-packed}
 use Rattle.kinphlor.proofs.kinphlor_seal.Statement.{statement}
 use Rattle.kinphlor.proofs.kinphlor_seal.Tie as tie
 
@@ -13,7 +13,7 @@ pack-requires : tie.Need-pack-requires
 pack-requires c κs = search needs
 
 returns : tie.Need-returns
-returns c = door-refused _ _ _ _ _ (sym (c .before .before .empty-nonce .ensures) ∙ c .before .if1 .taken) (c .pack .ensures)
+returns c = nonce-refused _ _ _ _ _ (sym (c .before .before .empty-nonce .ensures) ∙ c .before .if1 .taken) (c .pack .ensures)
 
 slice-aggregate-seal : tie.Need-slice-aggregate-seal
 slice-aggregate-seal c = search needs
@@ -31,7 +31,7 @@ same-length-2 : tie.Need-same-length-2
 same-length-2 c = search needs
 
 returns-2 : tie.Need-returns-2
-returns-2 c = door-call _ _ _ _ _ (sym (c .before .before .before .before .before .before .before .before .before .before .empty-nonce .ensures) ∙ c .before .before .before .before .before .before .before .before .before .if1 .left) (c .before .before .before .before .before .seal .ensures) (c .pack2 .ensures)
+returns-2 c = call-packed _ _ _ _ _ (sym (c .before .before .before .before .before .before .before .before .before .before .empty-nonce .ensures) ∙ c .before .before .before .before .before .before .before .before .before .if1 .left) (c .before .before .before .before .before .seal .ensures) (c .pack2 .ensures)
 
 pub kinphlor-seal-spec : {M : Type 1} → statement M
 kinphlor-seal-spec =

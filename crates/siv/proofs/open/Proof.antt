@@ -39,7 +39,7 @@ sub-n c = omega (arith, admits (c .before) .tagged)
 open-admitted-requires : tie.Need-open-admitted-requires
 open-admitted-requires c κs =
     let a = admits (c .before .before) in
-    (a .keyed, omega (arith, a .listed), a .tagged, omega (arith, a .scratchy))
+    ((a .keyed, omega (arith, a .listed)), a .tagged, omega (arith, a .scratchy))
 
 sub-copy-at : tie.Need-sub-copy-at
 sub-copy-at c = search needs

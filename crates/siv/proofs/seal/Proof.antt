@@ -40,7 +40,7 @@ enum-told-2 c = search needs
 seal-admitted-requires : tie.Need-seal-admitted-requires
 seal-admitted-requires c κs =
     let a = admits (c .before .before) in
-    (a .keyed, omega (arith, a .listed), omega (arith, a .roomy))
+    ((a .keyed, omega (arith, a .listed)), omega (arith, a .roomy))
 
 scratch-need-requires : tie.Need-scratch-need-requires
 scratch-need-requires c κs = search needs

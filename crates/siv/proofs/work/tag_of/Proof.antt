@@ -30,15 +30,15 @@ round-keys-requires : tie.Need-round-keys-requires
 round-keys-requires c κs =
     let start = c .before .before .before .before .before in
     let key = start .args .key .now in
-    let h : KeyHalves (length key) = halves _ (start .pre .1) in
+    let h : KeyHalves (length key) = halves _ (start .pre .1 .0) in
     let long : length (take (length key / 2 - 0) key) ≡ length key / 2 = ap (λ (n : ℕ). length (take n key)) (sub-zero (length key / 2)) ∙ length-take-le _ key (omega arith) in
     (search needs, ap isWidth long ∙ h .half)
 
 tag-under-requires : tie.Need-tag-under-requires
 tag-under-requires c κs =
     let start = c .before .before .before .before .before .before .before in
-    let h : KeyHalves (length (start .args .key .now)) = halves _ (start .pre .1) in
-    (search needs, h .most, start .pre .2)
+    let h : KeyHalves (length (start .args .key .now)) = halves _ (start .pre .1 .0) in
+    (search needs, h .most, start .pre .1 .1)
 
 returns : tie.Need-returns
 unfolding tagOf
@@ -46,7 +46,7 @@ returns c =
     let start = c .before .before .before .before .before .before .before .before in
     let key = start .args .key .now in
     let ss = strings (start .args .header .now) (start .args .lens .now) in
-    let h : KeyHalves (length key) = halves _ (start .pre .1) in
+    let h : KeyHalves (length key) = halves _ (start .pre .1 .0) in
     let long : length key / 2 ≡ length (macKey key) = sym (length-take-le _ key (omega arith)) in
     let keys = c .before .before .round-keys .ensures ∙ ap (λ (n : ℕ). roundKeys (take n key)) (sub-zero (length key / 2)) in
     c .tag-under .ensures ∙ ap (λ (E : List ℕ → List ℕ). s2v E ss (start .args .p .now)) (aes-cipher (macKey key) long keys)

@@ -1,4 +1,4 @@
--- `stream::hold::load_joined` meets its contract.
+-- `stream::tail::load_joined` meets its contract.
 -- Assumes nothing.
 use mathlib.Core.Path.{sym, _∙_}
 use mathlib.Core.List.{_++_}
@@ -7,8 +7,8 @@ use lib.ListN.{length-append}
 use borrow.Author.Needs.{needs}
 use Rattle.octets.proofs.Strings.{put-all, length-part}
 use Rattle.stream.proofs.Laws.{part-right}
-use Rattle.stream.proofs.hold.load_joined.Statement.{statement}
-use Rattle.stream.proofs.hold.load_joined.Tie as tie
+use Rattle.stream.proofs.tail.load_joined.Statement.{statement}
+use Rattle.stream.proofs.tail.load_joined.Tie as tie
 
 sub-load : tie.Need-sub-load
 sub-load c = search needs

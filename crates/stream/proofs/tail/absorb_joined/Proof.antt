@@ -1,11 +1,11 @@
--- `stream::hold::absorb_joined` meets its contract.
+-- `stream::tail::absorb_joined` meets its contract.
 -- Assumes nothing.
 use mathlib.Core.Path.{ap, _∙_}
 use borrow.Author.Needs.{needs}
 use Rattle.octets.specs.Octets.{xors}
 use Rattle.aes.specs.Cipher.{cipher}
-use Rattle.stream.proofs.hold.absorb_joined.Statement.{statement}
-use Rattle.stream.proofs.hold.absorb_joined.Tie as tie
+use Rattle.stream.proofs.tail.absorb_joined.Statement.{statement}
+use Rattle.stream.proofs.tail.absorb_joined.Tie as tie
 
 mul-load-joined : tie.Need-mul-load-joined
 mul-load-joined c = search needs

@@ -1,4 +1,4 @@
--- `stream::hold::tail_joined` meets its contract.
+-- `stream::tail::tail_joined` meets its contract.
 -- Assumes nothing.
 use mathlib.Core.Path.{ap, _∙_}
 use mathlib.Core.List.{_++_}
@@ -7,8 +7,8 @@ use lib.ListN.{replicate, drop, length-append, length-drop}
 use lib.Seq.{take-all}
 use borrow.Author.Needs.{needs}
 use Rattle.octets.specs.Octets.{put}
-use Rattle.stream.proofs.hold.tail_joined.Statement.{statement}
-use Rattle.stream.proofs.hold.tail_joined.Tie as tie
+use Rattle.stream.proofs.tail.tail_joined.Statement.{statement}
+use Rattle.stream.proofs.tail.tail_joined.Tie as tie
 
 slice-aggregate-copy-joined : tie.Need-slice-aggregate-copy-joined
 slice-aggregate-copy-joined c = search needs

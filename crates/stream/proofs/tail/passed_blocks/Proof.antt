@@ -1,4 +1,4 @@
--- `stream::hold::passed_blocks` meets its contract.
+-- `stream::tail::passed_blocks` meets its contract.
 -- Assumes nothing.
 use mathlib.Core.Path.{ap}
 use Prim.Native.Nat.{ℕ, _-_, _/_}
@@ -6,8 +6,8 @@ use native.Mathlib.Omega.{arith}
 use borrow.Author.Needs.{needs}
 use Rattle.s2v.proofs.Laws.{tail}
 use Rattle.stream.specs.State.{passedBlocks}
-use Rattle.stream.proofs.hold.passed_blocks.Statement.{statement}
-use Rattle.stream.proofs.hold.passed_blocks.Tie as tie
+use Rattle.stream.proofs.tail.passed_blocks.Statement.{statement}
+use Rattle.stream.proofs.tail.passed_blocks.Tie as tie
 
 tail-len-requires : tie.Need-tail-len-requires
 tail-len-requires c κs = search needs

@@ -1,4 +1,4 @@
--- `stream::hold::chain_joined` meets its contract.
+-- `stream::tail::chain_joined` meets its contract.
 -- Assumes nothing.
 use mathlib.Core.Path.{_≡_, refl, ap, _∙_}
 use mathlib.Core.List.{_++_}
@@ -8,8 +8,8 @@ use borrow.Author.Needs.{needs}
 use Rattle.aes.specs.Cipher.{cipher}
 use Rattle.cmac.specs.Cmac.{chain}
 use Rattle.cmac.proofs.Laws.{chain-more}
-use Rattle.stream.proofs.hold.chain_joined.Statement.{statement}
-use Rattle.stream.proofs.hold.chain_joined.Tie as tie
+use Rattle.stream.proofs.tail.chain_joined.Statement.{statement}
+use Rattle.stream.proofs.tail.chain_joined.Tie as tie
 
 abbrev Inv-loop : tie.InvT-loop
 Inv-loop engine width keys a b n x₀ i₀ x i = (i ≤ n) × (x ≡ chain (cipher width keys) x₀ (a ++ b) i)

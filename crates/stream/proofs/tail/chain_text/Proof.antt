@@ -1,12 +1,12 @@
--- `stream::hold::chain_text` meets its contract.
+-- `stream::tail::chain_text` meets its contract.
 -- Assumes nothing.
 use mathlib.Core.List.{_++_}
 use mathlib.Core.Path.{ap, sym}
 use borrow.Author.Needs.{needs}
 use Rattle.aes.specs.Cipher.{cipher}
 use Rattle.cmac.specs.Cmac.{chain}
-use Rattle.stream.proofs.hold.chain_text.Statement.{statement}
-use Rattle.stream.proofs.hold.chain_text.Tie as tie
+use Rattle.stream.proofs.tail.chain_text.Statement.{statement}
+use Rattle.stream.proofs.tail.chain_text.Tie as tie
 
 returns : tie.Need-returns
 unfolding chain

@@ -1,4 +1,4 @@
--- `stream::hold::copy_joined` meets its contract.
+-- `stream::tail::copy_joined` meets its contract.
 -- Assumes nothing.
 use mathlib.Core.Path.{_≡_, ap, sym, _∙_}
 use mathlib.Core.List.{List}
@@ -9,8 +9,8 @@ use borrow.Author.Needs.{needs}
 use Rattle.octets.specs.Octets.{put}
 use Rattle.octets.proofs.Strings.{part-to, part-rest, put-put}
 use Rattle.stream.proofs.Laws.{part-right, part-left, part-seam}
-use Rattle.stream.proofs.hold.copy_joined.Statement.{statement}
-use Rattle.stream.proofs.hold.copy_joined.Tie as tie
+use Rattle.stream.proofs.tail.copy_joined.Statement.{statement}
+use Rattle.stream.proofs.tail.copy_joined.Tie as tie
 
 sub-from : tie.Need-sub-from
 sub-from c = search needs

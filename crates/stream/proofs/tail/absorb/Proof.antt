@@ -1,4 +1,4 @@
--- `stream::hold::absorb` meets its contract.
+-- `stream::tail::absorb` meets its contract.
 -- Assumes nothing.
 use mathlib.Core.Path.{_≡_, refl, ap₂}
 use Prim.Native.Nat.{ℕ, _-_}
@@ -7,8 +7,8 @@ use lib.ListN.{length, length-take}
 use borrow.Author.Needs.{needs}
 use Rattle.s2v.specs.S2v.{tailLength}
 use Rattle.stream.proofs.Laws.{piece, absorbed}
-use Rattle.stream.proofs.hold.absorb.Statement.{statement}
-use Rattle.stream.proofs.hold.absorb.Tie as tie
+use Rattle.stream.proofs.tail.absorb.Statement.{statement}
+use Rattle.stream.proofs.tail.absorb.Tie as tie
 
 add-total : tie.Need-add-total
 add-total c = search needs

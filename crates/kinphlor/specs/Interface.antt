@@ -1,0 +1,48 @@
+-- The C interface, "the host door" of document 01: whole sealing and opening with associated data and nonce.
+-- Assumes nothing.
+use mathlib.Core.Path.{_≡_}
+use mathlib.Core.Bool.{Bool, cond, _&&_}
+use mathlib.Core.List.{List, [], _∷_}
+use Prim.Native.Nat.{ℕ, _+_, _*_}
+use lib.Dec.{eqb}
+use lib.ListN.{length}
+use denote.Ref.{now}
+use Rattle.siv.specs.Answer.{Outcome, verdict}
+use Rattle.siv.specs.Calls.{isKeyLength, CallResult, sealCall, openCall, Lent}
+
+-- the header list: associated data, then nonce
+abbrev pub aeadLens : ℕ → ℕ → List ℕ
+aeadLens ad nonce = ad ∷ nonce ∷ []
+
+-- the number times 2 to the power 32, plus the length
+abbrev pub packed : Outcome → ℕ
+packed o = o .number * 4294967296 + o .count
+
+-- whether an empty nonce is refused, with 10, straight after 1 for the key
+unfoldable pub emptyNonce : ℕ → ℕ → Bool
+emptyNonce keyLength nonce = isKeyLength keyLength && eqb nonce 0
+
+-- what the interface does: that refusal, with all lent memory untouched, or the call
+unfoldable pub fromC : ℕ → List ℕ → List ℕ → List ℕ → CallResult → CallResult
+fromC nonce key output scratch call =
+    cond (emptyNonce (length key) nonce) (record { outcome = verdict 10; output = output; scratch = scratch }) call
+
+-- sealing and opening from C
+abbrev pub sealFromC : List ℕ → List ℕ → ℕ → ℕ → List ℕ → List ℕ → List ℕ → CallResult
+sealFromC key header ad nonce input output scratch =
+    fromC nonce key output scratch (sealCall key header (aeadLens ad nonce) input output scratch)
+
+abbrev pub openFromC : List ℕ → List ℕ → ℕ → ℕ → List ℕ → List ℕ → List ℕ → CallResult
+openFromC key header ad nonce input output scratch =
+    fromC nonce key output scratch (openCall key header (aeadLens ad nonce) input output scratch)
+
+-- a call of the interface gave what its definition says
+pub record DidPacked (result : CallResult) (given : ℕ) (lastOutput lastScratch : List ℕ) : Type 0 where
+  pub answer : given ≡ packed (result .outcome)
+  pub output : lastOutput ≡ result .output
+  pub scratch : lastScratch ≡ result .scratch
+
+-- what a call of the interface promises: with what the lent slices held at entry, its number and what output and scratch hold at exit are the definition's
+abbrev pub PerformsFromC : (List ℕ → List ℕ → ℕ → ℕ → List ℕ → List ℕ → List ℕ → CallResult) → Lent → Lent → ℕ → ℕ → Lent → Lent → Lent → ℕ → Type 0
+PerformsFromC call key header ad nonce input output scratch given =
+    DidPacked (call (now (key .entry)) (now (header .entry)) ad nonce (now (input .entry)) (now (output .entry)) (now (scratch .entry))) given (now (output .exit)) (now (scratch .exit))
