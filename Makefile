@@ -3,10 +3,12 @@
 # make demo: lane records sealed, laid out byte by byte and opened.
 # make bench: times beside OpenSSL's and libgcrypt's, stack and instructions; writes docs/BENCHMARKS.md.
 # make install: libkinphlor.a, kinphlor.h and kinphlor.pc below PREFIX; DESTDIR is put before it.
+# Each first installs what it needs and the machine lacks, or says in one line what that is: host/setup.sh.
 SHELL := /bin/bash
 .SHELLFLAGS := -eu -o pipefail -c
 .DEFAULT_GOAL := test
-.PHONY: test lib demo bench install install-files
+SETUPS := setup-test setup-lib setup-demo setup-bench
+.PHONY: test lib demo bench install install-files $(SETUPS)
 
 PREFIX ?= /usr/local
 # kinphlor.pc holds it, so it is made absolute.
@@ -16,7 +18,10 @@ VERSION := 0.1.0
 # Programs over the archive, and host-test, their tests.
 include host/Makefile
 
-test:
+$(SETUPS): setup-%:
+	@host/setup.sh $*
+
+test: setup-test
 	@mkdir -p build
 	@rt ci 2>&1 | tee build/ci.log
 	@for crate in kinphlor probe; do \
@@ -25,16 +30,16 @@ test:
 	@$(MAKE) --no-print-directory host-test
 	@tail -n 1 build/ci.log
 
-lib:
+lib: setup-lib
 	@mkdir -p build
 	rt staticlib kinphlor
 	cp target/staticlib/libkinphlor.a include/kinphlor.h build/
 
-demo: lib
+demo: setup-demo lib
 	$(call host_cc,demo,host/demo/demo.c)
 	@$(HOST_OUT)/demo
 
-bench: lib
+bench: setup-bench lib
 	rt staticlib probe
 	@$(MAKE) --no-print-directory host-stack host-bench
 	@$(HOST_OUT)/bench

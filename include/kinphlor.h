@@ -59,14 +59,14 @@ extern "C" {
 enum kinphlor_answer {
     KINPHLOR_OK = 0,
     KINPHLOR_KEY_LENGTH = 1,     /* the key has not 32, 48 or 64 bytes */
-    KINPHLOR_STRINGS = 2,        /* more than 126 header strings; never from these functions, which have two */
-    KINPHLOR_HEADER_LENGTH = 3,  /* ad_len + nonce_len is not header_len */
+    KINPHLOR_HEADER_COUNT = 2,   /* more than 126 header strings; never from these functions, which have two */
+    KINPHLOR_HEADER_LENGTHS = 3, /* ad_len + nonce_len is not header_len */
     KINPHLOR_TOO_LONG = 4,       /* plaintext over 1,048,576 bytes, or sealed record over 1,048,592 */
-    KINPHLOR_TOO_SHORT = 5,      /* sealed record under 16 bytes */
-    KINPHLOR_OUTPUT_LENGTH = 6,  /* output too short */
-    KINPHLOR_SCRATCH_LENGTH = 7, /* scratch too short */
+    KINPHLOR_SEALED_LENGTH = 5,  /* sealed record under 16 bytes */
+    KINPHLOR_OUTPUT_SHORT = 6,   /* output too short */
+    KINPHLOR_SCRATCH_SHORT = 7,  /* scratch too short */
     KINPHLOR_FORGED = 8,         /* not sealed under this key and header: damaged or forged */
-    KINPHLOR_STAGE = 9,          /* a piecewise call out of turn; never from these functions */
+    KINPHLOR_STATE = 9,          /* a stream state that is not one for the call; never from these functions */
     KINPHLOR_EMPTY_NONCE = 10    /* nonce_len is 0 */
 };
 
@@ -92,14 +92,14 @@ static inline const char *kinphlor_text(uint32_t number) {
     switch (number) {
     case KINPHLOR_OK: return "success";
     case KINPHLOR_KEY_LENGTH: return "the key has not 32, 48 or 64 bytes";
-    case KINPHLOR_STRINGS: return "more than 126 header strings";
-    case KINPHLOR_HEADER_LENGTH: return "the lengths of associated data and nonce do not sum to the header's";
+    case KINPHLOR_HEADER_COUNT: return "more than 126 header strings";
+    case KINPHLOR_HEADER_LENGTHS: return "the lengths of associated data and nonce do not sum to the header's";
     case KINPHLOR_TOO_LONG: return "the plaintext is over 1,048,576 bytes, or the sealed record over 1,048,592";
-    case KINPHLOR_TOO_SHORT: return "the sealed record is under 16 bytes";
-    case KINPHLOR_OUTPUT_LENGTH: return "the output is too short";
-    case KINPHLOR_SCRATCH_LENGTH: return "the scratch is too short";
+    case KINPHLOR_SEALED_LENGTH: return "the sealed record is under 16 bytes";
+    case KINPHLOR_OUTPUT_SHORT: return "the output is too short";
+    case KINPHLOR_SCRATCH_SHORT: return "the scratch is too short";
     case KINPHLOR_FORGED: return "the record is damaged or forged";
-    case KINPHLOR_STAGE: return "the call is out of turn";
+    case KINPHLOR_STATE: return "the stream state is not one for this call";
     case KINPHLOR_EMPTY_NONCE: return "the nonce is empty";
     default: return "unknown answer";
     }

@@ -100,14 +100,14 @@ static void nulls(void) {
     CHECK_RESULT("no header but lengths",
                  kinphlor_seal_nullable(key, 32, NULL, 0, 0, 16, plain, PLAIN_LEN, sealed, sizeof sealed, scratch,
                                         sizeof scratch),
-                 KINPHLOR_HEADER_LENGTH, 0);
+                 KINPHLOR_HEADER_LENGTHS, 0);
     CHECK_RESULT("no sealed record", kinphlor_open_nullable(key, 32, header, 16, 0, 16, NULL, 0, NULL, 0, NULL, 0),
-                 KINPHLOR_TOO_SHORT, 0);
+                 KINPHLOR_SEALED_LENGTH, 0);
     CHECK_RESULT("no output", kinphlor_seal_nullable(key, 32, header, 16, 0, 16, plain, PLAIN_LEN, NULL, 0, NULL, 0),
-                 KINPHLOR_OUTPUT_LENGTH, 0);
+                 KINPHLOR_OUTPUT_SHORT, 0);
     CHECK_RESULT("no scratch",
                  kinphlor_seal_nullable(key, 32, header, 16, 0, 16, plain, PLAIN_LEN, sealed, sizeof sealed, NULL, 0),
-                 KINPHLOR_SCRATCH_LENGTH, 0);
+                 KINPHLOR_SCRATCH_SHORT, 0);
     CHECK_RESULT("no plaintext",
                  kinphlor_seal_nullable(key, 32, header, 16, 0, 16, NULL, 0, tag, sizeof tag, scratch, sizeof scratch),
                  KINPHLOR_OK, KINPHLOR_TAG_LEN);
@@ -118,10 +118,10 @@ static void nulls(void) {
 
 /* The numbers are those of the table, and each has a text of its own. */
 static void texts(void) {
-    static const uint32_t numbers[] = {KINPHLOR_OK,           KINPHLOR_KEY_LENGTH,     KINPHLOR_STRINGS,
-                                       KINPHLOR_HEADER_LENGTH, KINPHLOR_TOO_LONG,       KINPHLOR_TOO_SHORT,
-                                       KINPHLOR_OUTPUT_LENGTH, KINPHLOR_SCRATCH_LENGTH, KINPHLOR_FORGED,
-                                       KINPHLOR_STAGE,         KINPHLOR_EMPTY_NONCE};
+    static const uint32_t numbers[] = {KINPHLOR_OK,             KINPHLOR_KEY_LENGTH,    KINPHLOR_HEADER_COUNT,
+                                       KINPHLOR_HEADER_LENGTHS, KINPHLOR_TOO_LONG,      KINPHLOR_SEALED_LENGTH,
+                                       KINPHLOR_OUTPUT_SHORT,   KINPHLOR_SCRATCH_SHORT, KINPHLOR_FORGED,
+                                       KINPHLOR_STATE,          KINPHLOR_EMPTY_NONCE};
     const uint32_t count = sizeof numbers / sizeof numbers[0];
     uint32_t i, j;
 
