@@ -1,9 +1,9 @@
 //! The table of answers for both begins, and the state that each hands back.
 
-use crate::book::Book;
 use crate::context::Context;
 use crate::fields::Fields;
 use crate::headers;
+use crate::model::Model;
 use crate::probe;
 use crate::state::{State, LEN};
 use crate::Pieces;
@@ -53,8 +53,8 @@ pub fn run(Pieces { peers, random, .. }: &mut Pieces) {
             check::holds(|| format!("{}: expected {want:?}, got {got:?}", what()), got == want);
             let expected = if due.is_empty() {
                 let context = Context { key: key.to_vec(), header: header.bytes.to_vec(), lens: header.lens.to_vec() };
-                let book = Book::new(peers, &context, tag.map(|tag| tag.try_into().unwrap()));
-                Fields::new(peers, &context).state(&book)
+                let model = Model::new(peers, &context, tag.map(|tag| tag.try_into().unwrap()));
+                Fields::new(peers, &context).state(&model)
             } else {
                 State::ENDED
             };

@@ -1,9 +1,9 @@
-//! The state that stands where the book is, field by field as document 01 has them, with libcrypto's AES.
+//! The state that stands where the model is, field by field as document 01 has them, with libcrypto's AES.
 
 use crate::aes;
-use crate::book::Book;
 use crate::context::{Context, Peers};
-use crate::state::{hold_len, Field, State};
+use crate::model::Model;
+use crate::state::{tail_len, Field, State};
 use shared::mac::Mac;
 
 pub struct Fields<'a> {
@@ -25,19 +25,19 @@ impl<'a> Fields<'a> {
         Fields { mac, begun }
     }
 
-    pub fn state(&self, book: &Book) -> State {
-        if book.stage == 0 {
+    pub fn state(&self, model: &Model) -> State {
+        if model.stage == 0 {
             return State::ENDED;
         }
-        let plain = book.plain();
-        let (passed, held) = plain.split_at(plain.len() - hold_len(plain.len() as u64));
+        let plain = model.plain();
+        let (passed, tail) = plain.split_at(plain.len() - tail_len(plain.len() as u64));
         let mut state = self.begun.clone();
-        state.set_number(Field::Stage, book.stage);
+        state.set_number(Field::Stage, model.stage);
         state.set(Field::Chain, &self.mac.chain(passed));
-        state.set(Field::V, &book.tag);
-        state.set_number(Field::Total, book.a.len() as u64);
-        state.set_number(Field::Written, book.w.len() as u64);
-        state.set_tail(held);
+        state.set(Field::V, &model.tag);
+        state.set_number(Field::Total, model.a.len() as u64);
+        state.set_number(Field::Written, model.w.len() as u64);
+        state.set_tail(tail);
         state
     }
 }

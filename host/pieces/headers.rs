@@ -1,9 +1,9 @@
 //! Whole calls with header lists: of 0 to 126 strings, held against libgcrypt, libcrypto and the model of steps; and of any
 //! form, held against the table of answers.
 
-use crate::book::Book;
 use crate::context::{Context, Peers};
 use crate::fields::Fields;
+use crate::model::Model;
 use crate::steps;
 use crate::Pieces;
 use shared::answers::{Calls, Lens};
@@ -48,9 +48,9 @@ fn record(peers: &Peers, random: &mut Random, key_len: usize, lens: Vec<u32>, n:
         let by_libcrypto = peers.libcrypto.seal(&context.key, &context.strings(), &plain);
         check::bytes(|| what("libcrypto beside libgcrypt"), &sealed, &by_libcrypto);
     }
-    let mut book = Book::new(peers, &context, None);
-    book.a = plain.clone();
-    let tag = steps::tag(&Fields::new(peers, &context).state(&book));
+    let mut model = Model::new(peers, &context, None);
+    model.a = plain.clone();
+    let tag = steps::tag(&Fields::new(peers, &context).state(&model));
     check::bytes(|| what("the model of steps beside libgcrypt"), &sealed[..TAG_LEN], &tag);
 
     for more in [0, 1 + random.below(40)] {

@@ -1,10 +1,10 @@
 //! Lists of calls after either begin, each made from one seed: any call in any stage, pieces at the edges of blocks and of
-//! the limit, outputs long enough or not. Answers, output bytes and states are held against the book after every call.
+//! the limit, outputs long enough or not. Answers, output bytes and states are held against the model after every call.
 
-use crate::book::Book;
 use crate::call::{Call, Kind};
 use crate::context::{Context, Peers};
 use crate::fields::Fields;
+use crate::model::Model;
 use crate::probe;
 use crate::state::{Field, State, LEN};
 use crate::Pieces;
@@ -116,10 +116,10 @@ struct List<'a> {
     start: &'a Start,
     /// How many bytes of the text there is room for.
     goal: usize,
-    book: Book<'a>,
+    model: Model<'a>,
     fields: Fields<'a>,
     state: State,
-    /// The opener's one output, as the calls left it and as the book has it.
+    /// The opener's one output, as the calls left it and as the model has it.
     one: Option<(Lent, Lent)>,
     /// Whether writes bring other bytes than were added.
     other_writes: bool,
@@ -149,7 +149,7 @@ fn run_list(pieces: &Pieces, seed: u64, talks: bool, tally: &mut Tally) {
         seed,
         start: &start,
         goal: if one.is_some() { len.min(one_len) } else { len },
-        book: Book::new(&pieces.peers, &start.context, start.tag),
+        model: Model::new(&pieces.peers, &start.context, start.tag),
         fields: Fields::new(&pieces.peers, &start.context),
         state,
         one,
@@ -160,11 +160,11 @@ fn run_list(pieces: &Pieces, seed: u64, talks: bool, tally: &mut Tally) {
         random,
     };
     check::holds(|| format!("{}, begin: expected (0, 0), got {begun:?}", list.name()), begun == (0, 0));
-    list.state.check(|| format!("{}, begin", list.name()), &list.fields.state(&list.book));
+    list.state.check(|| format!("{}, begin", list.name()), &list.fields.state(&list.model));
     let most = 1 + list.random.below(40);
-    while list.calls < most && (list.book.stage != 0 || !list.random.once_in(3)) {
+    while list.calls < most && (list.model.stage != 0 || !list.random.once_in(3)) {
         let (kind, number) = list.call();
-        *tally.entry((kind, number, list.book.a.len() == LIMIT)).or_default() += 1;
+        *tally.entry((kind, number, list.model.a.len() == LIMIT)).or_default() += 1;
     }
     list.end();
 }
@@ -176,8 +176,8 @@ impl List<'_> {
 
     /// Mostly a call that the stage wants: more of the same, or the stage's end where all is there.
     fn kind(&mut self) -> Kind {
-        let (a, w) = (self.book.a.len(), self.book.w.len());
-        let (more, end, all) = match self.book.stage {
+        let (a, w) = (self.model.a.len(), self.model.w.len());
+        let (more, end, all) = match self.model.stage {
             1 => (Kind::Add, Kind::Turn, a >= self.goal),
             2 => (Kind::Write, Kind::Close, w >= a),
             3 => (Kind::Feed, Kind::Finish, a >= self.goal),
@@ -192,7 +192,7 @@ impl List<'_> {
 
     /// A piece that goes on where the last one ended, with noise where the text or what was added is at its end.
     fn piece(&mut self, kind: Kind) -> Vec<u8> {
-        let (a, w) = (&self.book.a, &self.book.w);
+        let (a, w) = (&self.model.a, &self.model.w);
         let (source, at, most) = match kind {
             Kind::Add | Kind::Feed => (&self.start.text[..self.goal], a.len(), LIMIT - a.len()),
             Kind::Write => (&a[..], w.len(), a.len() - w.len()),
@@ -227,7 +227,7 @@ impl List<'_> {
     fn call(&mut self) -> (Kind, u64) {
         let kind = self.kind();
         let call = Call { kind, piece: self.piece(kind) };
-        let room = match call.output_need(self.book.a.len()) {
+        let room = match call.output_need(self.model.a.len()) {
             Some(need) => self.room(need),
             None => 0,
         };
@@ -238,7 +238,7 @@ impl List<'_> {
         let len = if keeps && self.random.once_in(4) { room.min(output.len()) } else { output.len() };
 
         let before = self.state.clone();
-        let want = self.book.call(&call, &mut wanted.slice()[..len]);
+        let want = self.model.call(&call, &mut wanted.slice()[..len]);
         let got = probe::step(&mut self.state, &call, &mut output.slice()[..len]);
         self.calls += 1;
 
@@ -258,12 +258,12 @@ impl List<'_> {
         (kind, want.0)
     }
 
-    /// The state after a call: as it was where the call was refused, else the book's, with the call's own fields changed.
+    /// The state after a call: as it was where the call was refused, else the model's, with the call's own fields changed.
     fn check_state(&self, what: impl Fn() -> String, kind: Kind, number: u64, before: &State) {
         if ![0, 8].contains(&number) {
             return self.state.check(|| format!("{}: refused", what()), before);
         }
-        self.state.check(&what, &self.fields.state(&self.book));
+        self.state.check(&what, &self.fields.state(&self.model));
         let own: &[Field] = match kind {
             Kind::Add | Kind::Feed => &[Field::Chain, Field::Total, Field::Tail],
             Kind::Turn => &[Field::Stage, Field::V],
@@ -279,16 +279,16 @@ impl List<'_> {
         let what = |does: &str| format!("{}, after {} calls: {does}", self.name(), self.calls);
         let one_piece = || what("the same bytes in one piece");
         self.state.check(one_piece, &self.one_piece(one_piece));
-        if !self.gave.is_empty() && self.book.a.starts_with(&self.book.w) {
-            let sealed = self.pieces.peers.seal(&self.start.context, &self.book.a);
-            check::bytes(|| what("tag and writes beside sealing"), &sealed[..TAG_LEN + self.book.w.len()], &self.gave);
+        if !self.gave.is_empty() && self.model.a.starts_with(&self.model.w) {
+            let sealed = self.pieces.peers.seal(&self.start.context, &self.model.a);
+            check::bytes(|| what("tag and writes beside sealing"), &sealed[..TAG_LEN + self.model.w.len()], &self.gave);
         }
     }
 
     /// The state of the same bytes given in one piece.
     fn one_piece(&self, what: impl Fn() -> String) -> State {
-        let (a, w) = (&self.book.a, &self.book.w);
-        let calls: &[(Kind, &[u8])] = match self.book.stage {
+        let (a, w) = (&self.model.a, &self.model.w);
+        let calls: &[(Kind, &[u8])] = match self.model.stage {
             0 => return State::ENDED,
             1 => &[(Kind::Add, a)],
             2 => &[(Kind::Add, a), (Kind::Turn, &[]), (Kind::Write, w)],

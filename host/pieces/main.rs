@@ -4,13 +4,13 @@
 
 mod aes;
 mod begins;
-mod book;
 mod call;
 mod context;
 mod counter;
 mod fields;
 mod headers;
 mod lists;
+mod model;
 mod probe;
 mod spoiled;
 mod state;

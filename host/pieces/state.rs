@@ -77,10 +77,10 @@ impl State {
     }
 
     /// The tail of a text, and zeros behind it.
-    pub fn set_tail(&mut self, held: &[u8]) {
+    pub fn set_tail(&mut self, used: &[u8]) {
         let tail = self.get_mut(Tail);
         tail.fill(0);
-        tail[..held.len()].copy_from_slice(held);
+        tail[..used.len()].copy_from_slice(used);
     }
 
     /// The fields that differ.
@@ -99,7 +99,7 @@ impl State {
     }
 }
 
-/// The length of the hold.
-pub fn hold_len(total: u64) -> usize {
+/// The length of the tail: document 01's hold.
+pub fn tail_len(total: u64) -> usize {
     if total < 16 { total as usize } else { 16 + (total % 16) as usize }
 }

@@ -5,7 +5,7 @@ use crate::aes::Cipher;
 use crate::call::{Call, Kind};
 use crate::counter;
 use shared::library::{LIMIT, TAG_LEN};
-use crate::state::{hold_len, Field, Field::*, State};
+use crate::state::{tail_len, Field, Field::*, State};
 use shared::mac::{double, last_block, pad, subkey, xor, Block};
 use shared::probe::Answer;
 
@@ -24,7 +24,7 @@ pub const REASONS: [(&str, fn(&Case) -> bool); 6] = [
     ("key width", |c| !WIDTHS.contains(&c.state.number(Width))),
     ("total", |c| c.total() > LIMIT as u64),
     ("written", |c| c.written() > if c.state.number(Stage) == 2 { c.total() } else { 0 }),
-    ("unused held byte", |c| c.state.get(Tail)[hold_len(c.total())..].iter().any(|&byte| byte != 0)),
+    ("unused tail byte", |c| c.state.get(Tail)[tail_len(c.total())..].iter().any(|&byte| byte != 0)),
     ("close before all is written", |c| c.call.kind == Kind::Close && c.written() < c.total()),
 ];
 
@@ -63,13 +63,13 @@ fn cipher(state: &State, keys: Field) -> Cipher {
     Cipher::new(state.number(Width), state.get(keys))
 }
 
-/// The tag of all that was added or fed: CMAC goes on from the chain over the held bytes with D at their end.
+/// The tag of all that was added or fed: CMAC goes on from the chain over the tail's bytes with D at their end.
 pub fn tag(state: &State) -> Block {
     let (cipher, d) = (cipher(state, MacKeys), state.block(D));
-    let held = &state.get(Tail)[..hold_len(state.number(Total))];
-    let end = match held.len().checked_sub(16) {
-        None => xor(&double(d), &pad(held)).to_vec(),
-        Some(at) => [&held[..at], &xor(&held[at..], &d)].concat(),
+    let tail = &state.get(Tail)[..tail_len(state.number(Total))];
+    let end = match tail.len().checked_sub(16) {
+        None => xor(&double(d), &pad(tail)).to_vec(),
+        Some(at) => [&tail[..at], &xor(&tail[at..], &d)].concat(),
     };
     let (front, last) = end.split_at(last_block(end.len()));
     let chain = front.chunks(16).fold(state.block(Chain), |chain, block| cipher.block(xor(&chain, block)));
@@ -84,17 +84,17 @@ fn xored(state: &State, piece: &[u8], place: u64) -> Vec<u8> {
     })
 }
 
-/// Takes plaintext in: blocks that leave the hold are chained.
+/// Takes plaintext in: blocks that leave the tail are chained.
 fn absorb(state: &mut State, piece: &[u8]) {
     let old = state.number(Total);
     let total = old + piece.len() as u64;
-    let text = [&state.get(Tail)[..hold_len(old)], piece].concat();
-    let (passed, held) = text.split_at(text.len() - hold_len(total));
+    let text = [&state.get(Tail)[..tail_len(old)], piece].concat();
+    let (passed, tail) = text.split_at(text.len() - tail_len(total));
     let cipher = cipher(state, MacKeys);
     let chain = passed.chunks(16).fold(state.block(Chain), |chain, block| cipher.block(xor(&chain, block)));
     state.set(Chain, &chain);
     state.set_number(Total, total);
-    state.set_tail(held);
+    state.set_tail(tail);
 }
 
 /// The answer to a call on which `first` is the first refusal that is due. The state becomes the one that is handed back,

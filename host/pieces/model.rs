@@ -1,5 +1,5 @@
-//! The plain book of document 01, with the peers' tags, openings and AES: what any list of calls after a begin must answer.
-//! It sees the arguments of begin and of the calls, and no state.
+//! The reference model, document 01's plain book: what any list of calls after a begin must answer. It sees the arguments of
+//! begin and of the calls, and no state, and has tags, openings and AES from the peers.
 
 use crate::call::{Call, Kind};
 use crate::context::{Context, Peers};
@@ -8,7 +8,7 @@ use shared::library::{LIMIT, TAG_LEN};
 use shared::mac::Block;
 use shared::probe::Answer;
 
-pub struct Book<'a> {
+pub struct Model<'a> {
     peers: &'a Peers,
     context: &'a Context,
     pub stage: u64,
@@ -20,11 +20,11 @@ pub struct Book<'a> {
     pub tag: Block,
 }
 
-impl<'a> Book<'a> {
+impl<'a> Model<'a> {
     /// After an opener's begin where there is a tag, else after a sealer's.
-    pub fn new(peers: &'a Peers, context: &'a Context, tag: Option<Block>) -> Book<'a> {
+    pub fn new(peers: &'a Peers, context: &'a Context, tag: Option<Block>) -> Model<'a> {
         let stage = if tag.is_some() { 3 } else { 1 };
-        Book { peers, context, stage, a: vec![], w: vec![], tag: tag.unwrap_or_default() }
+        Model { peers, context, stage, a: vec![], w: vec![], tag: tag.unwrap_or_default() }
     }
 
     /// A piece xored with the key stream of the tag.
