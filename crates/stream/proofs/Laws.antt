@@ -32,7 +32,7 @@ use Rattle.siv.proofs.Laws.{not-due, first-not, first-pass, first-stop}
 use Rattle.stream.specs.declared.Step.{Step}
 use Rattle.stream.specs.declared.Stream.{Stream}
 use Rattle.stream.specs.State.{allZero, writtenLimit, fits, passedBlocks, tailOf, added, ended, start, tagOfState}
-use Rattle.stream.specs.Steps.{StepResult, DidStep, doneStep, refusedStep, settle, openerRows, streamedAt, finishStep, addRows, turnRows, writeRows, feedRows, finishRows}
+use Rattle.stream.specs.Steps.{StepResult, DidStep, settle, openerRows, streamedAt, finishStep, addRows, turnRows, writeRows, feedRows, finishRows}
 
 -- ---- parts of two joined strings
 
@@ -108,16 +108,21 @@ fit wanted s e =
 
 -- ---- the calls' results
 
+module _ (test : Bool) (a b : StepResult) {step : Step} {last : List ℕ} where
+  -- a result that a test picks, from the one that is picked
+  picked : test ≡ true → DidStep a step last → DidStep (cond test a b) step last
+  picked e d = subst (λ (t : Bool). DidStep (cond t a b) step last) (sym e) d
+
+  picked-else : test ≡ false → DidStep b step last → DidStep (cond test a b) step last
+  picked-else e d = subst (λ (t : Bool). DidStep (cond t a b) step last) (sym e) d
+
 pub refused : (a : Answer) (n : ℕ) (done : StepResult) (s : Stream) (output : List ℕ) → (outcomeOf a .number ≡ 0 → ⊥) → outcomeOf a ≡ verdict n
     → DidStep (settle n done s output) (record { answer = a; state = s }) output
 refused a n done s output k e =
-    let off : eqb n 0 ≡ false = ne-eqb n 0 (λ z. k (ap (λ (o : Outcome). o .number) e ∙ z)) in
-    subst (λ (t : Bool). DidStep (cond t done (refusedStep n s output)) (record { answer = a; state = s }) output) (sym off)
-    (record { outcome = e; state = refl; output = refl })
+    picked-else (eqb n 0) _ _ (ne-eqb n 0 (λ z. k (ap (λ (o : Outcome). o .number) e ∙ z))) (record { outcome = e; state = refl; output = refl })
 
 pub done : (n : ℕ) (result : StepResult) (s : Stream) (output : List ℕ) {step : Step} {last : List ℕ} → n ≡ 0 → DidStep result step last → DidStep (settle n result s output) step last
-done n result s output {step} {last} e d =
-    subst (λ (t : Bool). DidStep (cond t result (refusedStep n s output)) step last) (sym (eq-eqb n 0 e)) d
+done n result s output e d = picked (eqb n 0) _ _ (eq-eqb n 0 e) d
 
 -- ---- the tail
 
@@ -287,8 +292,7 @@ module _ (s : Stream) (output : List ℕ) where
       let due : first judged ≡ 0 → ⊥ = λ z. k (ap (λ (o : Outcome). o .number) e ∙ z) in
       let stops : number ≡ first judged = first-stop judged forgery due in
       let off8 : eqb number 8 ≡ false = ne-eqb number 8 (λ z. first-not 8 judged refl (λ z. omega arith) (sym stops ∙ z)) in
-      let d = refused a number (doneStep (s .total) ended output) s output k (e ∙ ap verdict (sym stops)) in
-      subst (λ (t : Bool). DidStep (cond t (refusedStep 8 ended (put output 0 (replicate (s .total) 0))) (settle number (doneStep (s .total) ended output) s output)) (record { answer = a; state = s }) output) (sym off8) d
+      picked-else (eqb number 8) _ _ off8 (refused a number _ s output k (e ∙ ap verdict (sym stops)))
 
   module _ {state : Stream} (none : first (finishRows s (length output)) ≡ 0) (ends : state ≡ ended) where
     by-tag : number ≡ cond (not (same (tagOfState s) (s .v))) 8 0
