@@ -1,2 +1,2 @@
 pub mod Laws
-mod Walk
+pub mod Walk

@@ -118,7 +118,7 @@ module _ {M : Type 1} (𝓤 : URA M) (H : Heap 𝓤) (A : Atoms 𝓤) (W : Given
         assigns ! (of-opd ! (load ! (from ! (fld ! refl (stop !))) (look-in ! 6 (sub ! 1 refl (whole !))))) (from ! (stop !)) (init ! 0 refl (tt, wt .1 .1 .0)) $
         move ! (10 ∷ []) $ use1 W (raw (StringAt 𝓤 H A mem run .pre to) ⊛ ‵ Own) (apart (wt .1 .1 .0 .fits)) $ split ! $
         calls-at ! fm (StringAt 𝓤 H A mem run) known to (and-then ! (load ! (from ! (stop !)) (look ! 4 refl)) (and-then ! (load ! (from ! (stop !)) (look ! 2 refl)) (and-then ! (load ! (from ! (stop !)) (look ! 6 refl)) (no-more !)))) (λ u.
-        receives ! tt κ q string.ended (string.clauses 𝓤 H A mem run) (κ, tt) (d .bytes, (d .at, (n, tt))) tt (λ r. now r ≡ found) (λ r ws. id⊢ 𝓤 _) u (id⊢ 𝓤 _) (λ r e is.
+        receives ! tt (‵ (flft κ q) ⊛ ‵ ftrue) string.ended (string.clauses 𝓤 H A mem run) (κ, tt) (d .bytes, (d .at, (n, tt))) tt (λ r. now r ≡ found) (λ r ws. id⊢ 𝓤 _) u (id⊢ 𝓤 _) (λ r e is.
         -- [the result; the token; what the struct owns; _4; …; _3; …; _2; …; _1; …; room for _0; …]
         land ! (from ! (stop !)) (init ! 11 refl (shr-slice-lawful 𝓤 H A W (named 0) κ u8 .typed r _ is .0)) $
         returns ! (look ! 11 refl) $ forget ! 3 refl $ forget ! 5 refl $ forget ! 7 refl $ forget ! 9 refl $ forget ! 11 refl $
