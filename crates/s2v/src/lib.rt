@@ -1,7 +1,7 @@
 // S2V, RFC 5297 2.4: the header result D and the tag V.
 ghost use mathlib.Core.Path.{_≡_};
 ghost use Prim.Native.Nat.{_+_, _≤_, _<_};
-ghost use lib.ListN.{length, getD};
+ghost use lib.ListN.{length};
 ghost use Rattle.aes.specs.Cipher.{cipher};
 ghost use Rattle.aes.specs.Tables.{Ready};
 ghost use Rattle.octets.specs.Octets.{xors};
@@ -31,14 +31,6 @@ fn absorb_string(
     )
 }
 
-// The length of string i.
-fn length_at(lens: &[u32], i: usize) -> usize
-    requires { ⌜ i < length (now lens) ⌝ }
-    ensures { λ r. ⌜ r ≡ getD (now (lens .entry)) i 0 ⌝ }
-{
-    lens[i] as usize
-}
-
 // D from d on over the strings of a header list: one reader is made at the front and moved on over each string.
 pub fn absorb_strings(
     engine: &Engine,
@@ -56,7 +48,7 @@ pub fn absorb_strings(
     let mut reader = header::reader::new(bytes, 0);
     let mut i = 0;
     while i < lens.len() {
-        let n = length_at(lens, i);
+        let n = header::length_at(lens, i);
         b = absorb_string(engine, width, keys, k, b, header::reader::next(reader, n));
         reader = header::reader::moved(reader, n);
         i += 1;

@@ -1,9 +1,9 @@
--- `s2v::length_at` meets its contract: a length of 32 bits fits.
+-- `header::length_at` meets its contract: a length of 32 bits fits.
 -- Assumes nothing.
 use native.Mathlib.Omega.{arith}
 use borrow.Author.Needs.{needs}
-use Rattle.s2v.proofs.length_at.Statement.{statement}
-use Rattle.s2v.proofs.length_at.Tie as tie
+use Rattle.header.proofs.length_at.Statement.{statement}
+use Rattle.header.proofs.length_at.Tie as tie
 
 mul-result : tie.Need-mul-result
 mul-result c = search needs
