@@ -34,14 +34,14 @@ use Rattle.header.proofs.reader.moved.Code as code
 within-fits : (m n : ℕ) → n < 2 ^ 64 → m ≤ n → m < 2 ^ 64
 within-fits m n fits within = omega arith
 
-module _ {M : Type 1} (𝓤 : URA M) (H : Heap 𝓤) (A : Atoms 𝓤) (W : Given 𝓤 H A) (κs : Lfts 1) where
-  abbrev params : Params 𝓤 H A (moved.signature .params) (moved.ended .kept) κs
+module _ {M : Type 1} (𝓤 : URA M) (H : Heap 𝓤) (A : Atoms 𝓤) (W : Given 𝓤 H A) (mem : Memory → SProp 𝓤) (run : Routine → Fun 𝓤) (κs : Lfts 1) where
+  abbrev c : Clauses 𝓤 moved.ended
+  c = moved.clauses 𝓤 H A mem run
+
+  abbrev params : Params 𝓤 H A moved.ended c κs
   params = (a-reader W (κs .0), (a-number W w64, tt))
 
-  module _ (mem : Memory → SProp 𝓤) (run : Routine → Fun 𝓤) (C : Calls 𝓤 H) (Λ : Loops 𝓤 H) (qs : Shares 1) (a : Args moved.signature κs) (within : a .0 .at + a .1 .0 ≤ length (now (a .0 .bytes))) where
-    abbrev c : Clauses 𝓤 moved.ended
-    c = moved.clauses 𝓤 H A mem run
-
+  module _ (C : Calls 𝓤 H) (Λ : Loops 𝓤 H) (qs : Shares 1) (a : Args moved.signature κs) (within : a .0 .at + a .1 .0 ≤ length (now (a .0 .bytes))) where
     abbrev y : Entry 𝓤 H A moved.ended c
     y = enters 𝓤 H A moved.ended c κs params qs tt a tt
 
@@ -63,5 +63,5 @@ unfolding code.routine
 moved-spec 𝓤 H 𝓜 𝓖 𝓡 =
     let A = 𝓖 .A in
     let W = givenOf 𝓤 H 𝓜 𝓖 in
-    closed 𝓤 H 𝓜 𝓖 𝓡 code.env #header·reader·moved code.function (code.unfolded 𝓤 H 𝓜 𝓡) moved.ended (moved.clauses 𝓤 H A (𝓜 .mem) (𝓡 .run)) (params 𝓤 H A W)
-    (λ κs a. a .0 .at + a .1 .0 ≤ length (now (a .0 .bytes))) (λ κs a g. id⊢ 𝓤 _) (λ κs qs bounds a g within. walk 𝓤 H A W κs (𝓜 .mem) (𝓡 .run) (tables 𝓤 H 𝓜 𝓡 code.env .C) (tables 𝓤 H 𝓜 𝓡 code.env .Λ) qs a within)
+    closed 𝓤 H 𝓜 𝓖 𝓡 code.env #header·reader·moved code.function (code.unfolded 𝓤 H 𝓜 𝓡) moved.ended (moved.clauses 𝓤 H A (𝓜 .mem) (𝓡 .run)) (params 𝓤 H A W (𝓜 .mem) (𝓡 .run))
+    (λ κs a. a .0 .at + a .1 .0 ≤ length (now (a .0 .bytes))) (λ κs a g. id⊢ 𝓤 _) (λ κs qs bounds a g within. walk 𝓤 H A W (𝓜 .mem) (𝓡 .run) κs (tables 𝓤 H 𝓜 𝓡 code.env .C) (tables 𝓤 H 𝓜 𝓡 code.env .Λ) qs a within)

@@ -27,14 +27,14 @@ use Rattle.header.proofs.reader.new as new
 use Rattle.header.proofs.reader.new.Statement as stated
 use Rattle.header.proofs.reader.new.Code as code
 
-module _ {M : Type 1} (𝓤 : URA M) (H : Heap 𝓤) (A : Atoms 𝓤) (W : Given 𝓤 H A) (κs : Lfts 1) where
-  abbrev params : Params 𝓤 H A (new.signature .params) (new.ended .kept) κs
+module _ {M : Type 1} (𝓤 : URA M) (H : Heap 𝓤) (A : Atoms 𝓤) (W : Given 𝓤 H A) (mem : Memory → SProp 𝓤) (run : Routine → Fun 𝓤) (κs : Lfts 1) where
+  abbrev c : Clauses 𝓤 new.ended
+  c = new.clauses 𝓤 H A mem run
+
+  abbrev params : Params 𝓤 H A new.ended c κs
   params = (a-slice W (named 0) (κs .0) u8, (a-number W w64, tt))
 
-  module _ (mem : Memory → SProp 𝓤) (run : Routine → Fun 𝓤) (C : Calls 𝓤 H) (Λ : Loops 𝓤 H) (qs : Shares 1) (a : Args new.signature κs) where
-    abbrev c : Clauses 𝓤 new.ended
-    c = new.clauses 𝓤 H A mem run
-
+  module _ (C : Calls 𝓤 H) (Λ : Loops 𝓤 H) (qs : Shares 1) (a : Args new.signature κs) where
     abbrev y : Entry 𝓤 H A new.ended c
     y = enters 𝓤 H A new.ended c κs params qs tt a tt
 
@@ -53,5 +53,5 @@ unfolding code.routine
 new-spec 𝓤 H 𝓜 𝓖 𝓡 =
     let A = 𝓖 .A in
     let W = givenOf 𝓤 H 𝓜 𝓖 in
-    closed 𝓤 H 𝓜 𝓖 𝓡 code.env #header·reader·new code.function (code.unfolded 𝓤 H 𝓜 𝓡) new.ended (new.clauses 𝓤 H A (𝓜 .mem) (𝓡 .run)) (params 𝓤 H A W)
-    (λ κs a. Unit {0}) (λ κs a g. factI 𝓤 _ (emp 𝓤) tt) (λ κs qs bounds a g asks. walk 𝓤 H A W κs (𝓜 .mem) (𝓡 .run) (tables 𝓤 H 𝓜 𝓡 code.env .C) (tables 𝓤 H 𝓜 𝓡 code.env .Λ) qs a)
+    closed 𝓤 H 𝓜 𝓖 𝓡 code.env #header·reader·new code.function (code.unfolded 𝓤 H 𝓜 𝓡) new.ended (new.clauses 𝓤 H A (𝓜 .mem) (𝓡 .run)) (params 𝓤 H A W (𝓜 .mem) (𝓡 .run))
+    (λ κs a. Unit {0}) (λ κs a g. factI 𝓤 _ (emp 𝓤) tt) (λ κs qs bounds a g asks. walk 𝓤 H A W (𝓜 .mem) (𝓡 .run) κs (tables 𝓤 H 𝓜 𝓡 code.env .C) (tables 𝓤 H 𝓜 𝓡 code.env .Λ) qs a)

@@ -21,15 +21,14 @@ use types.Kit.{Given, ‵, _$_, _∵_, !, qed}
 use types.Part.{whole, sub}
 use types.Run.{look, of-opd, and-then, no-more, returns, enter}
 use sound.WpLaws.{FmC}
-use denote.Plain.{uint-makes}
-use denote.Builtin.{u8, usize}
+use denote.Builtin.{u8}
 use denote.Ref.{now}
 use denote.Slice.{slice-vals}
 use denote.Triple.Clauses.{Clauses}
 use denote.Triple.Entry.{Args}
 use denote.Triple.Table.{cited}
 use Rattle.octets.specs.Octets.{part}
-use Rattle.header.proofs.Walk.{Params, a-number, a-slice, made, lent, begins, copied, inside, sets, lands-in, puts, freed, Knows, asks, Entry, enters, Start, Owned, Walked, param, twice, ends, framed, closed}
+use Rattle.header.proofs.Walk.{Params, a-number, a-slice, number, lent, begins, copied, inside, sets, lands-in, puts, freed, Knows, asks, Entry, enters, Start, Owned, Walked, param, owned-twice, ends, framed, closed}
 use Rattle.header.proofs.Readers.{Bytes, a-reader, reader-bytes}
 use Rattle.header.proofs.reader.string_at as string
 use Rattle.header.proofs.reader.string_at.Symbol as string-def
@@ -39,15 +38,15 @@ use Rattle.header.proofs.reader.next as next
 use Rattle.header.proofs.reader.next.Statement as stated
 use Rattle.header.proofs.reader.next.Code as code
 
-module _ {M : Type 1} (𝓤 : URA M) (H : Heap 𝓤) (A : Atoms 𝓤) (W : Given 𝓤 H A) (κs : Lfts 1) where
-  abbrev params : Params 𝓤 H A (next.signature .params) (next.ended .kept) κs
+module _ {M : Type 1} (𝓤 : URA M) (H : Heap 𝓤) (A : Atoms 𝓤) (W : Given 𝓤 H A) (mem : Memory → SProp 𝓤) (run : Routine → Fun 𝓤) (κs : Lfts 1) where
+  abbrev c : Clauses 𝓤 next.ended
+  c = next.clauses 𝓤 H A mem run
+
+  abbrev params : Params 𝓤 H A next.ended c κs
   params = (a-reader W (κs .0), (a-number W w64, tt))
 
-  module _ (mem : Memory → SProp 𝓤) (run : Routine → Fun 𝓤) (C : Calls 𝓤 H) (Λ : Loops 𝓤 H) (fm : FmC 𝓤 H (W .laws) C) (known : Knows 𝓤 H A C string-def.name string.ended (string.clauses 𝓤 H A mem run))
+  module _ (C : Calls 𝓤 H) (Λ : Loops 𝓤 H) (fm : FmC 𝓤 H (W .laws) C) (known : Knows 𝓤 H A string.ended (string.clauses 𝓤 H A mem run) C string-def.name)
       (qs : Shares 1) (a : Args next.signature κs) (within : a .0 .at + a .1 .0 ≤ length (now (a .0 .bytes))) where
-    abbrev c : Clauses 𝓤 next.ended
-    c = next.clauses 𝓤 H A mem run
-
     abbrev y : Entry 𝓤 H A next.ended c
     y = enters 𝓤 H A next.ended c κs params qs tt a tt
 
@@ -55,18 +54,20 @@ module _ {M : Type 1} (𝓤 : URA M) (H : Heap 𝓤) (A : Atoms 𝓤) (W : Given
     walk are wt =
         qed W (Start 𝓤 H A next.ended c y ∷ []) ∵ enter ! C Λ code.function _ _ $ begins ! wt (λ bs.
         sets ! (of-opd ! (inside ! refl (sub ! 0 refl (whole !)))) refl (tt, wt .0 .1 .0) $ sets ! (of-opd ! (inside ! refl (sub ! 1 refl (whole !)))) refl (tt, wt .0 .1 .1 .0) $
-        asks ! fm string.ended (string.clauses 𝓤 H A mem run) known ((κs, qs, tt, (a .0 .bytes, (a .0 .at, (a .1 .0, tt))), (slice-vals (a .0 .bytes), (vint w64 (a .0 .at) ∷ [], (vint w64 (a .1 .0) ∷ [], tt)))), tt)
-        (lent 𝓤 H A W (0 ∷ []) (‵ (flft (κs .0) (qs .0)) ∷ ‵ ftrue ∷ [])) (twice 𝓤 H A next.ended c W y params)
-        (via 𝓤 _ (param 𝓤 H A next.ended c 0 y) (reader-bytes W (κs .0) (a .0)), (made 𝓤 H A usize (uint-makes 𝓤 H A W w64) (a .0 .at) _ (refl, wt .0 .1 .1 .0 .fits) (Owned 𝓤 H A next.ended c y), (param 𝓤 H A next.ended c 1 y, tt)))
-        (factI 𝓤 _ (emp 𝓤) within) (a-slice W (named 0) (κs .0) u8) (λ s. now s ≡ part (now (a .0 .bytes)) (a .0 .at) (a .1 .0)) (λ s ws. id⊢ 𝓤 _)
-        (and-then ! (copied ! refl) (and-then ! (copied ! refl) (and-then ! (copied ! refl) (no-more !)))) (λ s e is. puts ! $ lands-in ! refl (a-slice W (named 0) (κs .0) u8 .lawful .typed s _ is .0) $
-        returns ! (look ! 1 refl) $ freed ! _ (some _ ∷ some _ ∷ some _ ∷ some _ ∷ some _ ∷ []) $ ends 𝓤 H A next.ended c ! y params s _ (fst∗ 𝓤 (sem 𝓤 H A (Bytes (κs .0) .own s (slice-vals s))) (sem 𝓤 H A (Owned 𝓤 H A next.ended c y))) (λ ws. factI 𝓤 _ (emp 𝓤) e)))
+        asks ! fm string.ended (string.clauses 𝓤 H A mem run) known ((κs, qs, tt, (a .0 .bytes, (a .0 .at, (a .1 .0, tt))), (slice-vals (a .0 .bytes), (vint w64 (a .0 .at) ∷ [], (vint w64 (a .1 .0) ∷ [], tt)))), tt) (record {
+          lends = lent 𝓤 H A W (0 ∷ []) (‵ (flft (κs .0) (qs .0)) ∷ ‵ ftrue ∷ []);
+          twice = owned-twice 𝓤 H A next.ended c W y params;
+          gives = (via 𝓤 _ (param 𝓤 H A next.ended c 0 y) (reader-bytes W (κs .0) (a .0)), (number 𝓤 H A W (a .0 .at) (wt .0 .1 .1 .0 .fits) (Owned 𝓤 H A next.ended c y), (param 𝓤 H A next.ended c 1 y, tt)));
+          met = factI 𝓤 _ (emp 𝓤) within;
+        }) (a-slice W (named 0) (κs .0) u8) (λ s. now s ≡ part (now (a .0 .bytes)) (a .0 .at) (a .1 .0)) (λ s ws. id⊢ 𝓤 _) (and-then ! (copied ! refl) (and-then ! (copied ! refl) (and-then ! (copied ! refl) (no-more !)))) (λ s e is.
+        puts ! $ lands-in ! refl (a-slice W (named 0) (κs .0) u8 .lawful .typed s _ is .0) $ returns ! (look ! 1 refl) $ freed ! _ (some _ ∷ some _ ∷ some _ ∷ some _ ∷ some _ ∷ []) $
+        ends 𝓤 H A next.ended c ! y params s _ (fst∗ 𝓤 (sem 𝓤 H A (Bytes (κs .0) .own s (slice-vals s))) (sem 𝓤 H A (Owned 𝓤 H A next.ended c y))) (λ ws. factI 𝓤 _ (emp 𝓤) e)))
 
 pub next-spec : {M : Type 1} → stated.statement M
 unfolding code.routine
 next-spec 𝓤 H 𝓜 𝓖 𝓡 =
     let A = 𝓖 .A in
     let W = givenOf 𝓤 H 𝓜 𝓖 in
-    closed 𝓤 H 𝓜 𝓖 𝓡 code.env #header·reader·next code.function (code.unfolded 𝓤 H 𝓜 𝓡) next.ended (next.clauses 𝓤 H A (𝓜 .mem) (𝓡 .run)) (params 𝓤 H A W)
-    (λ κs a. a .0 .at + a .1 .0 ≤ length (now (a .0 .bytes))) (λ κs a g. id⊢ 𝓤 _) (λ κs qs bounds a g within. walk 𝓤 H A W κs (𝓜 .mem) (𝓡 .run) (tables 𝓤 H 𝓜 𝓡 code.env .C) (tables 𝓤 H 𝓜 𝓡 code.env .Λ) (framed 𝓤 H 𝓜 𝓖 𝓡 code.env)
+    closed 𝓤 H 𝓜 𝓖 𝓡 code.env #header·reader·next code.function (code.unfolded 𝓤 H 𝓜 𝓡) next.ended (next.clauses 𝓤 H A (𝓜 .mem) (𝓡 .run)) (params 𝓤 H A W (𝓜 .mem) (𝓡 .run))
+    (λ κs a. a .0 .at + a .1 .0 ≤ length (now (a .0 .bytes))) (λ κs a g. id⊢ 𝓤 _) (λ κs qs bounds a g within. walk 𝓤 H A W (𝓜 .mem) (𝓡 .run) κs (tables 𝓤 H 𝓜 𝓡 code.env .C) (tables 𝓤 H 𝓜 𝓡 code.env .Λ) (framed 𝓤 H 𝓜 𝓖 𝓡 code.env)
     (cited 𝓤 H _ 𝓜 𝓡 code.env string-def.name string-def.routine code.calls-header·reader·string-at (string-thm.met 𝓤 H 𝓜 𝓖 𝓡)) qs a within)
