@@ -43,12 +43,14 @@ module _ {M : Type 1} {𝓤 : URA M} {H : Heap 𝓤} {A : Atoms 𝓤} (W : Given
   a-reader = a-struct W (D κ) (L κ) (T′.the-copy (namedLft 1 0 tt (κ, tt)))
 
   module _ (r : Reader) where
+    -- what the reader owns gives what its slice owns
     pub reader-bytes : ent 𝓤 (sem 𝓤 H A (ReaderT κ .own r (T′.lowered r ∷ []))) (sem 𝓤 H A (Bytes κ .own (r .bytes) (slice-vals (r .bytes))))
     reader-bytes =
         qed W (‵ (ReaderT κ .own r (T′.lowered r ∷ [])) ∷ []) ∵
         use1 W (given (T′.lowered r ∷ [] ≡ T′.lowered r ∷ []) (‵ (all-own (D κ .parts) (L κ) (r .bytes, (r .at, tt))))) (own-open 𝓤 H A W (D κ) (L κ) (r .bytes, (r .at, tt)) (T′.lowered r)) $ learn ! (λ _.
         use1 W (‵ (ownAt (D κ .parts) (L κ) 0 (r .bytes)) ⊛ ‵ (rest (D κ .parts) (L κ) 0 (r .bytes, (r .at, tt)))) (own-out 𝓤 H A W (D κ .parts) (L κ) 0 (r .bytes, (r .at, tt))) $ split ! $ keep ! (0 ∷ []) $ done !)
 
+    -- and back, where the place fits
     pub bytes-reader : r .at < 2 ^ 64 → ent 𝓤 (sem 𝓤 H A (Bytes κ .own (r .bytes) (slice-vals (r .bytes)))) (sem 𝓤 H A (ReaderT κ .own r (T′.lowered r ∷ [])))
     bytes-reader fits =
         qed W (‵ (Bytes κ .own (r .bytes) (slice-vals (r .bytes))) ∷ []) ∵

@@ -1,6 +1,6 @@
 -- What a walk of MIR by hand needs where every value in it is Copy: the locals in a row, what is had beside them, a call, the exit, and the way from the walk to the contract.
 -- A walk's context is `Had P F` and then each local: its cell, and that it dies. So local i stands at 1 + 2 i, and the rules below read that from the statement.
--- `Had P F` is the lifetimes' tokens P and what the values own, F. All of F can be had twice, so a call takes what it is passed from it and leaves it as it was.
+-- `Had P F` is the lifetimes' tokens P and what the values own, F. All of F can be had twice, so a call takes from it what it is passed and leaves it as it was.
 -- Assumes nothing.
 use mathlib.Core.Path.{_≡_, refl, sym, ap, subst, _∙_}
 use mathlib.Core.Bool.{Bool}
@@ -62,6 +62,7 @@ Fitting [] (v ∷ vs) = ⊥
 Fitting (local τ h ∷ ls) (v ∷ vs) = (Holds (hasTy τ v) × WT v) × Fitting ls vs
 
 module _ {M : Type 1} (𝓤 : URA M) (H : Heap 𝓤) where
+  -- the locals' types, with where they lie
   abbrev pub env : (ls : List Local) → Places ls → Env 𝓤 H
   env [] bs = []
   env (local τ h ∷ ls) bs = (τ, bs .0) ∷ env ls (bs .1)
@@ -74,10 +75,12 @@ module _ {M : Type 1} (𝓤 : URA M) (H : Heap 𝓤) where
   locals (e ∷ E) (some v ∷ vs) = ‵ (fat fullShare (e .0) (e .1) zero v) ∷ ‵ (fdies (e .0) (e .1)) ∷ locals E vs
 
 module _ {M : Type 1} {𝓤 : URA M} {H : Heap 𝓤} {A : Atoms 𝓤} {K : Type 0} {W : Given 𝓤 H A} where
+  -- the locals are allocated, all as room
   allocated : K → (ls : List Local) {i : Item 𝓤} {G : Env 𝓤 H → Goal 𝓤 H} → ((bs : Places ls) → Seq K W (i ∷ locals 𝓤 H (env 𝓤 H ls bs) []) (G (env 𝓤 H ls bs))) → Seq K W (i ∷ []) (allocs ls G)
   allocated t [] k = alloc0 t $ k tt
   allocated t (local τ h ∷ ls) k = alloc1 t (λ b. move t (2 ∷ []) $ group t 3 $ allocated t ls (λ bs. split3 t $ k (b, bs)))
 
+  -- values are stored in them
   stored : K → (ls : List Local) (bs : Places ls) (vs : List Val) → Fitting ls vs → {i : Item 𝓤} {g : Goal 𝓤 H} → Step K W (i ∷ locals 𝓤 H (env 𝓤 H ls bs) (map some vs)) g (i ∷ locals 𝓤 H (env 𝓤 H ls bs) []) (passes (env 𝓤 H ls bs) vs g)
   stored t ls bs [] fits = pass0 t
   stored t [] bs (v ∷ vs) fits = absurd fits
@@ -215,6 +218,7 @@ pub record Known {M : Type 1} (𝓤 : URA M) (H : Heap 𝓤) (A : Atoms 𝓤) (T
   pub copies : Copy 𝓤 H A T
   pub still : (k : Kept) → T .exit k ≡ unchanged
 
+-- numbers, references, slices, arrays of numbers, and structs of such
 module _ {M : Type 1} {𝓤 : URA M} {H : Heap 𝓤} {A : Atoms 𝓤} (W : Given 𝓤 H A) where
   abbrev pub a-number : (w : Width) → Known 𝓤 H A (UInt w)
   a-number w = record { vals = uint-vals w; tells = uint-tells w; lawful = uint-lawful 𝓤 H A W w; copies = uint-copy 𝓤 H A W w; still = λ k. refl }
@@ -253,17 +257,19 @@ module _ {M : Type 1} (𝓤 : URA M) (H : Heap 𝓤) (A : Atoms 𝓤) where
   all-twice W [] ks a vss = emp∗ 𝓤 (emp 𝓤)
   all-twice W (T ∷ Ts) ks a vss = both-twice 𝓤 H A W (T .own (a .0) (vss .0)) (owns Ts (a .1) (vss .1)) (ks .0 .copies .twice (a .0) (vss .0)) (all-twice W Ts (ks .1) (a .1) (vss .1))
 
--- of no parameter anything is had at exit, nor does the contract say anything
+-- of a parameter nothing is had at exit, and the contract says nothing of it there
 abbrev spent : {n : ℕ} (ss : List (Slot n)) (ks : Kepts ss) → Stays ss ks
 spent [] ks = tt
 spent (s ∷ ss) ks = (stay-dropped s (ks .0), spent ss (ks .1))
 
 module _ {M : Type 1} (𝓤 : URA M) (H : Heap 𝓤) (A : Atoms 𝓤) {n : ℕ} where
+  -- so nothing is lost
   go : (W : Given 𝓤 H A) (ss : List (Slot n)) (ks : Kepts ss) → ((κs : Lfts n) → Knowns 𝓤 H A (typesAt ss κs)) → AllGo 𝓤 H A W n ss ks (spent ss ks)
   go W [] ks ps = tt
   go W (s ∷ ss) ks ps =
       (goes-dropped 𝓤 H A W n s (ks .0) (λ κs x. subst (λ (e : Exit (s .row κs .Denot)). (f : Last e x) → left e x f ≡ ftrue) (sym (ps κs .0 .still (ks .0))) (λ f. refl)), go W ss (ks .1) (λ κs. ps κs .1))
 
+  -- what is bound of the parameters at exit, and had
   lasting : (ss : List (Slot n)) (ks : Kepts ss) (κs : Lfts n) → Knowns 𝓤 H A (typesAt ss κs) → (a : Denots (typesAt ss κs)) (vss : Valss (typesAt ss κs)) → (ws : Fins κs ss ks a) × fitsOf κs ss ks (spent ss ks) a ws × ent 𝓤 (emp 𝓤) (sem 𝓤 H A (hasOf κs ss ks (spent ss ks) a ws vss))
   lasting [] ks κs ps a vss = (tt, tt, id⊢ 𝓤 (emp 𝓤))
   lasting (s ∷ ss) ks κs ps a vss =
@@ -305,16 +311,20 @@ module _ {M : Type 1} (𝓤 : URA M) (H : Heap 𝓤) (A : Atoms 𝓤) (T : Ended
   pub param : (n : ℕ) (y : Entry) → ent 𝓤 (sem 𝓤 H A (Owned y)) (sem 𝓤 H A (own-at 𝓤 H A n (typesAt (T .signature .params) (y .0 .0)) (y .0 .3) (y .0 .4)))
   param n y = nth-own 𝓤 H A n (typesAt (T .signature .params) (y .0 .0)) (y .0 .3) (y .0 .4)
 
-  -- ---- its walk: of each parameter's type ps knows what there is to know
+  -- ---- its walk
+
+  -- what the walk knows of the parameters' types, and with it what the function is called with
   abbrev pub Params : Lfts (T .signature .lifetimes) → Type 1
   Params κs = Knowns 𝓤 H A (typesAt (T .signature .params) κs)
 
   abbrev pub enters : (κs : Lfts (T .signature .lifetimes)) → Params κs → Shares (T .signature .lifetimes) → AllOutlive (T .signature .lifetimes) (T .signature .outlives) κs → (a : Args (T .signature) κs) → c κs a .ghost → Entry
   enters κs ps qs bounds a g = ((κs, qs, bounds, a, valss (typesAt (T .signature .params) κs) (spells 𝓤 H A (typesAt (T .signature .params) κs) ps) a), g)
 
+  -- what the parameters own can be had twice
   pub owned-twice : Given 𝓤 H A → (y : Entry) → Params (y .0 .0) → Twice 𝓤 H A (Owned y)
   owned-twice W y ps = all-twice 𝓤 H A W (typesAt (T .signature .params) (y .0 .0)) ps (y .0 .3) (y .0 .4)
 
+  -- what is had at the start, and what is shown at the end
   abbrev pub Start : Entry → Item 𝓤
   Start y = Had 𝓤 H A (Tokens y) (Owned y)
 

@@ -124,11 +124,13 @@ module _ (E : List ℕ → List ℕ) (k : Subkeys) (d bytes lens : List ℕ) whe
   abbrev pub absorbed : ℕ → List ℕ
   absorbed i = absorbStrings E k d (strings bytes (take i lens))
 
+  -- with string i
   pub absorbed-more : (i : ℕ) → i < length lens → xors (double (absorbed i)) (cmacFrom E k zeros (part bytes (total (take i lens)) (getD lens i 0))) ≡ absorbed (i + 1)
   unfolding absorbStrings
   absorbed-more i h =
       sym (absorb-append E k d (strings bytes (take i lens)) (part bytes (total (take i lens)) (getD lens i 0) ∷ []))
       ∙ ap (absorbStrings E k d) (sym (strings-more lens i h bytes))
 
+  -- with all strings
   pub absorbed-all : (i : ℕ) → length lens ≤ i → absorbed i ≡ absorbStrings E k d (strings bytes lens)
   absorbed-all i h = ap (λ (l : List ℕ). absorbStrings E k d (strings bytes l)) (take-all i lens h)
