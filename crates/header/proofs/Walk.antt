@@ -25,7 +25,7 @@ use contract.Running.{GhostRules, Running, givenOf, tables, tablesOf}
 use types.Kit.{Given, Item, Goal, Post, Seq, Step, mean, ⋆, nth, del, put, pull, unpull, runs, lands, prop, allocs, params′, passes, frees, ‵, raw, _⊛_, some as any, later, _$_, _∵_, !, step, qed, by, move, drop, use0, use1, use2, split, split3, join, group, fsplit, fjoin, pick, await, assume, suffices, frame, done}
 use types.Part.{Part, look-in}
 use types.Run.{Opd, Opds, Rv, look, store, init, forget, stop, fld, from, load, assigns, land, alloc1, alloc0, params1, pass1, pass0, free1, free0}
-use sound.WpLaws.{FmC, fmOf, WpFn-mono}
+use sound.WpLaws.{FmC, WpFn-mono}
 use denote.RattleType.{RattleType, Denots, Valss, mirs, owns}
 use denote.Laws.{Is, Are, Ises, Typed, Spells, valss, Tells, Tellss, Makes, Lawful, Lawfuls, Copy, shows, all-typed}
 use denote.Plain.{UInt, uint-vals, uint-tells, uint-lawful, uint-copy, uint-makes}
@@ -387,11 +387,6 @@ module _ {M : Type 1} {𝓤 : URA M} {H : Heap 𝓤} {A : Atoms 𝓤} {K : Type 
       subst (λ (z : R .Denot). Seq K W (Had 𝓤 H A P F ∷ Γ) (lands C Λ E d (only (known .vals z)) rest q)) (sym e) (k (subst (λ (z : R .Denot). Is R z (only (known .vals z) ∷ [])) e is)))
 
 module _ {M : Type 1} (𝓤 : URA M) (H : Heap 𝓤) (𝓜 : Model 𝓤 H) (𝓖 : GhostRules 𝓤 H) (𝓡 : Running 𝓤 H 𝓜) (γ : Meanings) where
-  -- the calls of a function's code are monotone under a frame
-  pub framed : FmC 𝓤 H (givenOf 𝓤 H 𝓜 𝓖 .laws) (tables 𝓤 H 𝓜 𝓡 γ .C)
-  unfolding tablesOf
-  framed = fmOf 𝓤 H (givenOf 𝓤 H 𝓜 𝓖 .laws) (tablesOf 𝓤 H 𝓜 (tables 𝓤 H 𝓜 𝓡 γ))
-
   -- a walk of a function's code at each choice of lifetimes, shares and arguments, from the fact φ that it requires, is the function's theorem
   pub closed : (k : Name) (e : Fn) → Closed 𝓤 H (tables 𝓤 H 𝓜 𝓡 γ .C) (tables 𝓤 H 𝓜 𝓡 γ .Λ) k e → (T : Ended) (c : Clauses 𝓤 T) (ps : (κs : Lfts (T .signature .lifetimes)) → Params 𝓤 H (𝓖 .A) T c κs)
       → (φ : (κs : Lfts (T .signature .lifetimes)) → Args (T .signature) κs → Type 0) → ((κs : Lfts (T .signature .lifetimes)) (a : Args (T .signature) κs) (g : c κs a .ghost) → ent 𝓤 (c κs a .requires g) (fact 𝓤 (φ κs a)))

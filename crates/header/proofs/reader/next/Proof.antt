@@ -12,15 +12,15 @@ use base.Logic.{SProp, emp, id⊢, via, fst∗}
 use base.Fml.{ftrue, flft}
 use prog.Memory.{Memory}
 use prog.Routine.{Routine}
-use prog.Wp.{Heap, Calls, Loops}
+use prog.Wp.{Heap, Tables}
 use ghost.Atoms.{Atoms, sem}
 use contract.Lifetimes.{Lfts, Shares}
 use contract.Monad.{Fun, factI}
-use contract.Running.{givenOf, tables}
+use contract.Running.{givenOf, tables, tablesOf}
 use types.Kit.{Given, ‵, _$_, _∵_, !, qed}
 use types.Part.{whole, sub}
 use types.Run.{look, of-opd, and-then, no-more, returns, enter}
-use sound.WpLaws.{FmC}
+use sound.WpLaws.{fmOf}
 use denote.Builtin.{u8}
 use denote.Ref.{now}
 use denote.Slice.{slice-vals}
@@ -28,7 +28,7 @@ use denote.Triple.Clauses.{Clauses}
 use denote.Triple.Entry.{Args}
 use denote.Triple.Table.{cited}
 use Rattle.octets.specs.Octets.{part}
-use Rattle.header.proofs.Walk.{Params, a-number, a-slice, number, lent, begins, copied, inside, sets, lands-in, puts, freed, Knows, asks, Entry, enters, Start, Owned, Walked, param, owned-twice, ends, framed, closed}
+use Rattle.header.proofs.Walk.{Params, a-number, a-slice, number, lent, begins, copied, inside, sets, lands-in, puts, freed, Knows, asks, Entry, enters, Start, Owned, Walked, param, owned-twice, ends, closed}
 use Rattle.header.proofs.Readers.{Bytes, a-reader, reader-bytes}
 use Rattle.header.proofs.reader.string_at as string
 use Rattle.header.proofs.reader.string_at.Symbol as string-def
@@ -45,16 +45,16 @@ module _ {M : Type 1} (𝓤 : URA M) (H : Heap 𝓤) (A : Atoms 𝓤) (W : Given
   abbrev params : Params 𝓤 H A next.ended c κs
   params = (a-reader W (κs .0), (a-number W w64, tt))
 
-  module _ (C : Calls 𝓤 H) (Λ : Loops 𝓤 H) (fm : FmC 𝓤 H (W .laws) C) (known : Knows 𝓤 H A string.ended (string.clauses 𝓤 H A mem run) C string-def.name)
+  module _ (𝓣 : Tables 𝓤 H) (knows-string : Knows 𝓤 H A string.ended (string.clauses 𝓤 H A mem run) (𝓣 .C) string-def.name)
       (qs : Shares 1) (a : Args next.signature κs) (within : a .0 .at + a .1 .0 ≤ length (now (a .0 .bytes))) where
     abbrev y : Entry 𝓤 H A next.ended c
     y = enters 𝓤 H A next.ended c κs params qs tt a tt
 
-    walk : Walked 𝓤 H A next.ended c C Λ code.function y
+    walk : Walked 𝓤 H A next.ended c (𝓣 .C) (𝓣 .Λ) code.function y
     walk are wt =
-        qed W (Start 𝓤 H A next.ended c y ∷ []) ∵ enter ! C Λ code.function _ _ $ begins ! wt (λ bs.
+        qed W (Start 𝓤 H A next.ended c y ∷ []) ∵ enter ! (𝓣 .C) (𝓣 .Λ) code.function _ _ $ begins ! wt (λ bs.
         sets ! (of-opd ! (inside ! refl (sub ! 0 refl (whole !)))) refl (tt, wt .0 .1 .0) $ sets ! (of-opd ! (inside ! refl (sub ! 1 refl (whole !)))) refl (tt, wt .0 .1 .1 .0) $
-        asks ! fm string.ended (string.clauses 𝓤 H A mem run) known ((κs, qs, tt, (a .0 .bytes, (a .0 .at, (a .1 .0, tt))), (slice-vals (a .0 .bytes), (vint w64 (a .0 .at) ∷ [], (vint w64 (a .1 .0) ∷ [], tt)))), tt) (record {
+        asks ! (fmOf 𝓤 H (W .laws) 𝓣) string.ended (string.clauses 𝓤 H A mem run) knows-string ((κs, qs, tt, (a .0 .bytes, (a .0 .at, (a .1 .0, tt))), (slice-vals (a .0 .bytes), (vint w64 (a .0 .at) ∷ [], (vint w64 (a .1 .0) ∷ [], tt)))), tt) (record {
           lends = lent 𝓤 H A W (0 ∷ []) (‵ (flft (κs .0) (qs .0)) ∷ ‵ ftrue ∷ []);
           twice = owned-twice 𝓤 H A next.ended c W y params;
           gives = (via 𝓤 _ (param 𝓤 H A next.ended c 0 y) (reader-bytes W (κs .0) (a .0)), (number 𝓤 H A W (a .0 .at) (wt .0 .1 .1 .0 .fits) (Owned 𝓤 H A next.ended c y), (param 𝓤 H A next.ended c 1 y, tt)));
@@ -64,10 +64,10 @@ module _ {M : Type 1} (𝓤 : URA M) (H : Heap 𝓤) (A : Atoms 𝓤) (W : Given
         ends 𝓤 H A next.ended c ! y params s _ (fst∗ 𝓤 (sem 𝓤 H A (Bytes (κs .0) .own s (slice-vals s))) (sem 𝓤 H A (Owned 𝓤 H A next.ended c y))) (λ ws. factI 𝓤 _ (emp 𝓤) e)))
 
 pub next-spec : {M : Type 1} → stated.statement M
-unfolding code.routine
+unfolding code.routine tablesOf
 next-spec 𝓤 H 𝓜 𝓖 𝓡 =
     let A = 𝓖 .A in
     let W = givenOf 𝓤 H 𝓜 𝓖 in
     closed 𝓤 H 𝓜 𝓖 𝓡 code.env #header·reader·next code.function (code.unfolded 𝓤 H 𝓜 𝓡) next.ended (next.clauses 𝓤 H A (𝓜 .mem) (𝓡 .run)) (params 𝓤 H A W (𝓜 .mem) (𝓡 .run))
-    (λ κs a. a .0 .at + a .1 .0 ≤ length (now (a .0 .bytes))) (λ κs a g. id⊢ 𝓤 _) (λ κs qs bounds a g within. walk 𝓤 H A W (𝓜 .mem) (𝓡 .run) κs (tables 𝓤 H 𝓜 𝓡 code.env .C) (tables 𝓤 H 𝓜 𝓡 code.env .Λ) (framed 𝓤 H 𝓜 𝓖 𝓡 code.env)
+    (λ κs a. a .0 .at + a .1 .0 ≤ length (now (a .0 .bytes))) (λ κs a g. id⊢ 𝓤 _) (λ κs qs bounds a g within. walk 𝓤 H A W (𝓜 .mem) (𝓡 .run) κs (tablesOf 𝓤 H 𝓜 (tables 𝓤 H 𝓜 𝓡 code.env))
     (cited 𝓤 H _ 𝓜 𝓡 code.env string-def.name string-def.routine code.calls-header·reader·string-at (string-thm.met 𝓤 H 𝓜 𝓖 𝓡)) qs a within)
