@@ -3,7 +3,7 @@
 use mathlib.Core.Path.{_≡_, refl, sym, ap, _∙_}
 use mathlib.Core.Bool.{false}
 use mathlib.Core.List.{List, [], _∷_, _++_}
-use Prim.Native.Nat.{ℕ, suc, _+_, _-_, _≤_, _<_, zero-le}
+use Prim.Native.Nat.{ℕ, _+_, _-_, _≤_, _<_, zero-le}
 use native.Mathlib.Numerals.{add-one}
 use native.Mathlib.Omega.{arith}
 use lib.Dec.{eqb}
@@ -12,12 +12,6 @@ use lib.Seq.{take-suc, take-all, drop-drop}
 use borrow.Author.Tests.{eqb-true, eq-eqb, ne-eqb}
 use Rattle.octets.proofs.Tests.{bool-ext}
 use Rattle.header.specs.Header.{total, strings}
-
--- there are as many strings as lengths
-pub length-strings : (bytes lens : List ℕ) → length (strings bytes lens) ≡ length lens
-unfolding strings
-length-strings bytes [] = refl
-length-strings bytes (n ∷ lens) = ap suc (length-strings _ lens)
 
 -- the sum of joined lists
 pub total-append : (a b : List ℕ) → total (a ++ b) ≡ total a + total b
@@ -43,21 +37,18 @@ total-take lens i =
 
 -- one length more in front
 module _ (lens : List ℕ) (i : ℕ) (h : i < length lens) where
-  pub total-suc : total (take (suc i) lens) ≡ total (take i lens) + getD lens i 0
+  pub total-more : total (take (i + 1) lens) ≡ total (take i lens) + getD lens i 0
   unfolding total
-  total-suc = rw (take-suc lens i 0, total-append) (omega arith)
+  total-more = rw (add-one, take-suc lens i 0, total-append) (omega arith)
 
-  pub strings-suc : (bytes : List ℕ)
-      → strings bytes (take (suc i) lens) ≡ strings bytes (take i lens) ++ (take (getD lens i 0) (drop (total (take i lens)) bytes) ∷ [])
+  pub strings-more : (bytes : List ℕ)
+      → strings bytes (take (i + 1) lens) ≡ strings bytes (take i lens) ++ (take (getD lens i 0) (drop (total (take i lens)) bytes) ∷ [])
   unfolding strings
-  strings-suc bytes = ap (strings bytes) (take-suc lens i 0 h) ∙ strings-append bytes (take i lens) (getD lens i 0 ∷ [])
+  strings-more bytes = rw (add-one, take-suc lens i 0) (strings-append bytes (take i lens) (getD lens i 0 ∷ []))
 
   -- the string at i lies within the sum of all lengths
   pub total-next : total (take i lens) + getD lens i 0 ≤ total lens
-  total-next =
-      let sum : total (take (suc i) lens) ≡ total (take i lens) + getD lens i 0 = total-suc in
-      let most : total (take (suc i) lens) ≤ total lens = total-take lens (suc i) in
-      omega arith
+  total-next = omega (arith, total-more, total-take lens (i + 1))
 
 -- a loop that counts down from n: what is left after the first i lengths
 pub record Left (lens : List ℕ) (n rest i : ℕ) : Type 0 where
@@ -71,10 +62,7 @@ module _ (lens : List ℕ) (n : ℕ) where
 
   module _ (rest i : ℕ) (l : Left lens n rest i) where
     pub left-more : i < length lens → getD lens i 0 ≤ rest → Left lens n (rest - getD lens i 0) (i + 1)
-    left-more h fits =
-        let sum : total (take (i + 1) lens) ≡ total (take i lens) + getD lens i 0 =
-        ap (λ (k : ℕ). total (take k lens)) (add-one i) ∙ total-suc lens i h in
-        record { count = omega arith; sum = omega arith }
+    left-more h fits = record { count = omega arith; sum = omega (arith, total-more lens i h) }
 
     -- the next length is more than is left
     pub left-short : i < length lens → rest < getD lens i 0 → false ≡ eqb (total lens) n

@@ -2,7 +2,9 @@
 pub mod reader;
 
 ghost use mathlib.Core.Path.{_≡_};
+ghost use Prim.Native.Nat.{_<_};
 ghost use lib.Dec.{eqb, ltb};
+ghost use lib.ListN.{length, getD};
 ghost use Rattle.header.specs.Header.{total};
 
 // The most header strings that RFC 5297 allows.
@@ -15,6 +17,14 @@ pub fn too_many(count: usize) -> bool
     MOST < count
 }
 
+// The length of string i.
+pub fn length_at(lens: &[u32], i: usize) -> usize
+    requires { ⌜ i < length (now lens) ⌝ }
+    ensures { λ r. ⌜ r ≡ getD (now (lens .entry)) i 0 ⌝ }
+{
+    lens[i] as usize
+}
+
 // Whether the lengths sum to n.
 pub fn sums_to(lens: &[u32], n: usize) -> bool
     ensures { λ r. ⌜ r ≡ eqb (total (now (lens .entry))) n ⌝ }
@@ -22,7 +32,7 @@ pub fn sums_to(lens: &[u32], n: usize) -> bool
     let mut rest = n;
     let mut i = 0;
     while i < lens.len() {
-        let len = lens[i] as usize;
+        let len = length_at(lens, i);
         if rest < len {
             return false;
         }

@@ -43,11 +43,3 @@ pub fn moved<'a>(r: Reader<'a>, n: usize) -> Reader<'a>
         at: r.at + n,
     }
 }
-
-// The string of n bytes at a place, by a reader: whoever calls this needs to know of no reader.
-pub fn string_from(bytes: &[u8], at: usize, n: usize) -> &[u8]
-    requires { ⌜ at + n ≤ length (now bytes) ⌝ }
-    ensures { λ r. ⌜ now r ≡ part (now (bytes .entry)) at n ⌝ }
-{
-    next(new(bytes, at), n)
-}

@@ -2,8 +2,7 @@
 -- Assumes nothing.
 use mathlib.Core.Path.{_≡_, refl, ap, ap₂, sym, _∙_}
 use mathlib.Core.List.{List, [], _∷_, _++_, append-assoc}
-use Prim.Native.Nat.{ℕ, suc, _+_, _-_, _*_, _/_, _%_, _≤_, _<_}
-use native.Mathlib.Numerals.{add-one}
+use Prim.Native.Nat.{ℕ, _+_, _-_, _*_, _/_, _%_, _≤_, _<_}
 use native.Mathlib.Decide.{decLt}
 use native.Mathlib.Omega.{arith}
 use lib.ListN.{length, getD, take, drop, length-append, length-drop, take-append-drop}
@@ -15,7 +14,7 @@ use Rattle.cmac.specs.declared.Subkeys.{Subkeys}
 use Rattle.cmac.specs.Cmac.{zeros, double, chain, cmacFrom}
 use Rattle.cmac.proofs.Laws.{chain-front, cmac-split}
 use Rattle.header.specs.Header.{total, strings}
-use Rattle.header.proofs.Laws.{strings-suc, total-suc, total-next}
+use Rattle.header.proofs.Laws.{strings-more}
 use Rattle.s2v.specs.S2v.{absorbStrings, xorend, lastString, tailLength, tagFrom, tag}
 
 -- ---- the tail
@@ -120,36 +119,18 @@ unfolding absorbStrings
 absorb-append E k d [] b = refl
 absorb-append E k d (s ∷ a) b = absorb-append E k _ a b
 
--- what the loop over the lengths has reached after i turns
-pub record Absorbed (E : List ℕ → List ℕ) (k : Subkeys) (d bytes lens now : List ℕ) (at i : ℕ) : Type 0 where
-  pub count : i ≤ length lens
-  pub place : at ≡ total (take i lens)
-  pub result : now ≡ absorbStrings E k d (strings bytes (take i lens))
-
+-- D after the first i strings of a header list
 module _ (E : List ℕ → List ℕ) (k : Subkeys) (d bytes lens : List ℕ) where
-  pub absorbed-none : Absorbed E k d bytes lens d 0 0
-  unfolding total strings absorbStrings
-  absorbed-none = record { count = omega arith; place = refl; result = refl }
+  abbrev pub absorbed : ℕ → List ℕ
+  absorbed i = absorbStrings E k d (strings bytes (take i lens))
 
-  module _ (now : List ℕ) (at i : ℕ) (s : Absorbed E k d bytes lens now at i) where
-    -- the next string lies within the buffer
-    pub absorbed-fits : i < length lens → total lens ≤ length bytes → at + getD lens i 0 ≤ length bytes
-    absorbed-fits h fits = omega (arith, total-next lens i h, s .place)
+  -- with string i
+  pub absorbed-more : (i : ℕ) → i < length lens → xors (double (absorbed i)) (cmacFrom E k zeros (part bytes (total (take i lens)) (getD lens i 0))) ≡ absorbed (i + 1)
+  unfolding absorbStrings
+  absorbed-more i h =
+      sym (absorb-append E k d (strings bytes (take i lens)) (part bytes (total (take i lens)) (getD lens i 0) ∷ []))
+      ∙ ap (absorbStrings E k d) (sym (strings-more lens i h bytes))
 
-    pub absorbed-more : (next : List ℕ) → i < length lens → next ≡ xors (double now) (cmacFrom E k zeros (part bytes at (getD lens i 0)))
-        → Absorbed E k d bytes lens next (at + getD lens i 0) (i + 1)
-    unfolding absorbStrings
-    absorbed-more next h e =
-        let one : take (suc i) lens ≡ take (i + 1) lens = ap (λ (n : ℕ). take n lens) (sym (add-one i)) in
-        record {
-          count = omega arith;
-          place = ap (λ (n : ℕ). n + getD lens i 0) (s .place) ∙ sym (total-suc lens i h) ∙ ap total one;
-          result =
-              e
-              ∙ ap₂ (λ (x : List ℕ) (n : ℕ). xors (double x) (cmacFrom E k zeros (part bytes n (getD lens i 0)))) (s .result) (s .place)
-              ∙ sym (absorb-append E k d (strings bytes (take i lens)) (part bytes (total (take i lens)) (getD lens i 0) ∷ []))
-              ∙ ap (absorbStrings E k d) (sym (strings-suc lens i h bytes) ∙ ap (strings bytes) one);
-        }
-
-    pub absorbed-all : length lens ≤ i → now ≡ absorbStrings E k d (strings bytes lens)
-    absorbed-all h = s .result ∙ ap (λ (l : List ℕ). absorbStrings E k d (strings bytes l)) (take-all i lens h)
+  -- with all strings
+  pub absorbed-all : (i : ℕ) → length lens ≤ i → absorbed i ≡ absorbStrings E k d (strings bytes lens)
+  absorbed-all i h = ap (λ (l : List ℕ). absorbStrings E k d (strings bytes l)) (take-all i lens h)

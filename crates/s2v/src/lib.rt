@@ -1,10 +1,10 @@
 // S2V, RFC 5297 2.4: the header result D and the tag V.
 ghost use mathlib.Core.Path.{_≡_};
-ghost use Prim.Native.Nat.{_+_, _≤_, _<_};
+ghost use Prim.Native.Nat.{_≤_, _<_};
 ghost use lib.ListN.{length};
 ghost use Rattle.aes.specs.Cipher.{cipher};
 ghost use Rattle.aes.specs.Engine.{Ready};
-ghost use Rattle.octets.specs.Octets.{xors, part};
+ghost use Rattle.octets.specs.Octets.{xors};
 ghost use Rattle.cmac.specs.Cmac.{cmacFrom, zeros, double, pad};
 ghost use Rattle.header.specs.Header.{total, strings};
 ghost use Rattle.s2v.specs.S2v.{absorbStrings, headerResult, xorend, tailLength, tagFrom, tag};
@@ -13,28 +13,25 @@ use aes::RoundKeys;
 use cmac::Subkeys;
 use octets::Block;
 
-// D with one string more: D doubled, xored with the CMAC of the n bytes at a place of the header buffer.
+// D with one string more: D doubled, xored with the CMAC of the string.
 fn absorb_string(
     engine: &Engine,
     width: usize,
     keys: &RoundKeys,
     k: Subkeys,
     d: Block,
-    bytes: &[u8],
-    at: usize,
-    n: usize,
+    s: &[u8],
 ) -> Block
-    requires { ⌜ Ready (now engine) × (width ≤ 32) × (at + n ≤ length (now bytes)) ⌝ }
-    ensures { λ r. ⌜ r ≡ xors (double d) (cmacFrom (cipher width (now (keys .entry))) k zeros (part (now (bytes .entry)) at n)) ⌝ }
+    requires { ⌜ Ready (now engine) × (width ≤ 32) ⌝ }
+    ensures { λ r. ⌜ r ≡ xors (double d) (cmacFrom (cipher width (now (keys .entry))) k zeros (now (s .entry))) ⌝ }
 {
-    let s = header::reader::string_from(bytes, at, n);
     octets::xor_block(
         cmac::double(d),
         cmac::cmac_from(engine, width, keys, k, [0u8; 16], s),
     )
 }
 
-// D from d on over the strings of a header list.
+// D from d on over the strings of a header list: one reader is made at the front and moved on over each string.
 pub fn absorb_strings(
     engine: &Engine,
     width: usize,
@@ -48,13 +45,12 @@ pub fn absorb_strings(
     ensures { λ r. ⌜ r ≡ absorbStrings (cipher width (now (keys .entry))) k d (strings (now (bytes .entry)) (now (lens .entry))) ⌝ }
 {
     let mut b = d;
-    let mut at = 0;
+    let mut reader = header::reader::new(bytes, 0);
     let mut i = 0;
     while i < lens.len() {
-        let n = lens[i] as usize;
-        let next = absorb_string(engine, width, keys, k, b, bytes, at, n);
-        b = next;
-        at += n;
+        let n = header::length_at(lens, i);
+        b = absorb_string(engine, width, keys, k, b, header::reader::next(reader, n));
+        reader = header::reader::moved(reader, n);
         i += 1;
     }
     b

@@ -1,7 +1,6 @@
 -- `header::sums_to` meets its contract: what is left of n after i lengths is n less their sum.
 -- Assumes nothing.
 use Prim.Native.Nat.{_-_}
-use native.Mathlib.Omega.{arith}
 use lib.ListN.{length}
 use borrow.Author.Needs.{needs}
 use Rattle.header.proofs.Laws.{Left, left-all, left-more, left-short, left-none}
@@ -17,14 +16,8 @@ abbrev μ-loop : tie.MeasureT-loop
 loop-holds : tie.Need-loop-holds Inv-loop μ-loop
 loop-holds c = left-all _ _
 
-mul-len : tie.Need-mul-len Inv-loop μ-loop
-mul-len c = search needs
-
-shared-slice-read-len : tie.Need-shared-slice-read-len Inv-loop μ-loop
-shared-slice-read-len c = search needs
-
-cast-len : tie.Need-cast-len Inv-loop μ-loop
-cast-len c = omega (arith, c .shared-slice-known .given (c .before .before .loop .i))
+length-at-requires : tie.Need-length-at-requires Inv-loop μ-loop
+length-at-requires c κs = search needs
 
 returns : tie.Need-returns Inv-loop μ-loop
 returns c = left-short _ _ _ _ (c .before .before .before .loop .inv) (search needs) (search needs)
@@ -36,7 +29,7 @@ loop-less : tie.Need-loop-less Inv-loop μ-loop
 loop-less c = search needs
 
 loop-again : tie.Need-loop-again Inv-loop μ-loop
-loop-again c = left-more _ _ _ _ (c .before .before .before .loop .inv) (search needs) (search needs)
+loop-again c = rw (c .before .length-at .ensures) (left-more _ _ _ _ (c .before .before .before .loop .inv) (search needs) (search needs))
 
 returns-2 : tie.Need-returns-2 Inv-loop μ-loop
 returns-2 c = left-none _ _ _ _ (c .before .loop .inv) (search needs)
@@ -48,9 +41,7 @@ sums-to-spec =
     Inv-loop
     μ-loop
     loop-holds
-    mul-len
-    shared-slice-read-len
-    cast-len
+    length-at-requires
     returns
     add-i
     loop-less

@@ -1,14 +1,10 @@
 -- `s2v::absorb_string` meets its contract.
 -- Assumes nothing.
-use mathlib.Core.Path.{ap, ap₂, _∙_}
+use mathlib.Core.Path.{ap₂, _∙_}
 use borrow.Author.Needs.{needs}
 use Rattle.octets.specs.Octets.{xors}
-use Rattle.cmac.specs.Cmac.{cmacFrom}
 use Rattle.s2v.proofs.absorb_string.Statement.{statement}
 use Rattle.s2v.proofs.absorb_string.Tie as tie
-
-string-from-requires : tie.Need-string-from-requires
-string-from-requires c κs = search needs
 
 double-requires : tie.Need-double-requires
 double-requires c κs = search needs
@@ -20,11 +16,7 @@ xor-block-requires : tie.Need-xor-block-requires
 xor-block-requires c κs = search needs
 
 returns : tie.Need-returns
-returns c =
-    c .xor-block .ensures
-    ∙ ap₂ xors (c .before .before .double .ensures) (c .before .cmac-from .ensures ∙ ap (cmacFrom _ _ _) (c .before .before .before .string-from .ensures))
+returns c = c .xor-block .ensures ∙ ap₂ xors (c .before .before .double .ensures) (c .before .cmac-from .ensures)
 
 pub absorb-string-spec : {M : Type 1} → statement M
-absorb-string-spec =
-    tie.close
-    (tie.spec string-from-requires double-requires cmac-from-requires xor-block-requires returns)
+absorb-string-spec = tie.close (tie.spec double-requires cmac-from-requires xor-block-requires returns)
