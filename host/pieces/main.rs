@@ -47,6 +47,6 @@ fn main() {
         ("the table of answers for whole calls", headers::answers),
         ("the table of answers for begins", begins::run),
         ("every call on good and spoiled states", spoiled::run),
-        ("lists of calls beside the plain book", lists::run),
+        ("lists of calls beside the model", lists::run),
     ]);
 }

@@ -13,14 +13,14 @@ use Rattle.siv.specs.declared.Answer.{Answer}
 use Rattle.siv.specs.declared.Answer.the-variants.{Ok, Refused}
 use Rattle.siv.specs.declared.Refusal.{Refusal}
 use Rattle.siv.specs.declared.Refusal.the-variants.{KeyLength, HeaderCount, HeaderLengths, TooLong, SealedLength, OutputShort, ScratchShort, Forged, State, EmptyNonce}
-use Rattle.siv.specs.Answer.{Outcome, Row, row, first, verdict, numberOf, outcomeOf}
-use Rattle.siv.specs.Calls.{CallResult, isKeyLength, sealNumber, sealCall, openNumber, openCall}
+use Rattle.siv.specs.Answer.{Outcome, Row, row, first, withoutLength, numberOf, outcomeOf}
+use Rattle.siv.specs.Calls.{CallResult, isKeyLength, sealTable, sealNumber, sealCall, openTable, openNumber, openCall}
 use Rattle.siv.proofs.Laws.{lacks, first-not, refusal-number}
 use Rattle.stream.specs.declared.Stream.{Stream}
 use Rattle.stream.specs.State.{ended}
-use Rattle.stream.specs.Steps.{StepResult, doneStep, refusedStep, settle, beginSealer, beginOpener, addStep, turnStep, writeStep, closeStep, feedStep, finishStep}
+use Rattle.stream.specs.Steps.{StepResult, doneStep, refusedStep, settle, beginSealer, beginOpener, addStep, turnStep, writeStep, closeStep, feedStep, finishTable, finishStep}
 use Rattle.kinphlor.specs.Interface.{emptyNonce, fromC}
-use Rattle.demands.specs.First.{order, keeps, FirstDue, none, here, later, sealTable, openTable, FirstSeal, FirstOpen, rowsFromC, FirstFromC, FirstStep, finishTable, FirstFinish, First}
+use Rattle.demands.specs.First.{order, keeps, FirstDue, none, here, later, FirstSeal, FirstOpen, rowsFromC, FirstFromC, FirstStep, FirstFinish, First}
 
 -- `first` takes the first row that is due
 first-due : (rs : List Row) → FirstDue rs (first rs)
@@ -72,7 +72,7 @@ module _ (rest : List Row) (nonce : ℕ) (key output scratch : List ℕ) (call :
   abbrev table : List Row
   table = row 1 (not (isKeyLength (length key))) ∷ rest
 
-  from-c : keeps order (rowsFromC nonce table) ≡ true → lacks 10 table ≡ true → call .outcome .number ≡ first table → FirstFromC table nonce key output scratch call
+  from-c : keeps order (rowsFromC nonce table) ≡ true → lacks 10 table ≡ true → call .outcome .number ≡ first table → FirstFromC table nonce output scratch call (fromC nonce key output scratch call)
   unfolding fromC emptyNonce
   from-c k l e = go (isKeyLength (length key)) refl (eqb nonce 0) refl
     where
@@ -80,9 +80,9 @@ module _ (rest : List Row) (nonce : ℕ) (key output scratch : List ℕ) (call :
       not-ten z = first-not 10 table l (λ p. omega (arith, p)) (sym e ∙ z)
 
       ten : CallResult
-      ten = record { outcome = verdict 10; output = output; scratch = scratch }
+      ten = record { outcome = withoutLength 10; output = output; scratch = scratch }
 
-      by-call : (n : ℕ) → (isKeyLength (length key) && eqb nonce 0) ≡ false → first table ≡ n → FirstDue (rowsFromC nonce table) n → FirstFromC table nonce key output scratch call
+      by-call : (n : ℕ) → (isKeyLength (length key) && eqb nonce 0) ≡ false → first table ≡ n → FirstDue (rowsFromC nonce table) n → FirstFromC table nonce output scratch call (fromC nonce key output scratch call)
       by-call n off number due =
           let same : fromC nonce key output scratch call ≡ call = ap (λ (t : Bool). cond t ten call) off in
           let same-number : fromC nonce key output scratch call .outcome .number ≡ call .outcome .number = ap (λ (r : CallResult). r .outcome .number) same in
@@ -93,7 +93,7 @@ module _ (rest : List Row) (nonce : ℕ) (key output scratch : List ℕ) (call :
             otherwise = λ z. same;
           }
 
-      go : (a : Bool) → isKeyLength (length key) ≡ a → (b : Bool) → eqb nonce 0 ≡ b → FirstFromC table nonce key output scratch call
+      go : (a : Bool) → isKeyLength (length key) ≡ a → (b : Bool) → eqb nonce 0 ≡ b → FirstFromC table nonce output scratch call (fromC nonce key output scratch call)
       go false a b z =
           by-call 1 (ap (λ (t : Bool). t && eqb nonce 0) a) (ap (λ (t : Bool). cond (not t) 1 (first rest)) a) (here (ap not a))
       go true a true z =
@@ -180,11 +180,11 @@ by-number Forged = refl
 by-number State = refl
 by-number EmptyNonce = refl
 
-told : (a b : Answer) → outcomeOf a ≡ outcomeOf b → a ≡ b
-told (Ok m) (Ok n) e = ap (λ (k : ℕ). Ok k) (ap (λ (o : Outcome). o .count) e)
-told (Ok m) (Refused r) e = absurd (refusal-number r (sym (ap (λ (o : Outcome). o .number) e)))
-told (Refused r) (Ok n) e = absurd (refusal-number r (ap (λ (o : Outcome). o .number) e))
-told (Refused r) (Refused s) e =
+outcome-tells : (a b : Answer) → outcomeOf a ≡ outcomeOf b → a ≡ b
+outcome-tells (Ok m) (Ok n) e = ap (λ (k : ℕ). Ok k) (ap (λ (o : Outcome). o .count) e)
+outcome-tells (Ok m) (Refused r) e = absurd (refusal-number r (sym (ap (λ (o : Outcome). o .number) e)))
+outcome-tells (Refused r) (Ok n) e = absurd (refusal-number r (ap (λ (o : Outcome). o .number) e))
+outcome-tells (Refused r) (Refused s) e =
     ap (λ (x : Refusal). Refused x) (sym (by-number r) ∙ ap (λ (o : Outcome). refusal (o .number)) e ∙ by-number s)
 
 pub answers-or-first-refusal : First
@@ -203,5 +203,5 @@ answers-or-first-refusal =
       closing = λ s. by-table _ _ _ _ refl refl;
       feeding = λ s piece output. by-table _ _ _ _ refl refl;
       finishing = finishing;
-      told = told;
+      outcomeTells = outcome-tells;
     }

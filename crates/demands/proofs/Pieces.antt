@@ -78,9 +78,9 @@ module _ (key : List ℕ) (ss : List (List ℕ)) where
     room = let c : Cut (length A) = cut (length A) in omega (arith, long, length-replicate {A = ℕ} 31 0)
 
     -- the tail's used bytes are the plaintext's last
-    held-state : usedTail (stateOf stage v written A) ≡ drop before A
+    tail-state : usedTail (stateOf stage v written A) ≡ drop before A
     unfolding before
-    held-state =
+    tail-state =
         let count : tailLength (length A) ≡ 0 + length (drop before A) = omega (arith, long) in
         ap (λ (n : ℕ). take n (tailOf (drop before A))) count ∙ take-put (replicate 31 0) 0 (drop before A) room
 
@@ -94,7 +94,7 @@ module _ (key : List ℕ) (ss : List (List ℕ)) where
         let total : length A + length B ≡ length (A ++ B) = sym (length-append A B) in
         let more : p + n ≡ passedBlocks (length A + length B) = omega (arith, passed-more (length A) (length B)) in
         let blocks : p + n ≡ passedBlocks (length (A ++ B)) = more ∙ ap passedBlocks total in
-        let text : usedTail (stateOf stage v written A) ++ B ≡ drop (16 * p) (A ++ B) = ap (λ (l : List ℕ). l ++ B) held-state ∙ sym (drop-append-le (16 * p) A B (omega arith)) in
+        let text : usedTail (stateOf stage v written A) ++ B ≡ drop (16 * p) (A ++ B) = ap (λ (l : List ℕ). l ++ B) tail-state ∙ sym (drop-append-le (16 * p) A B (omega arith)) in
         let place : 16 * p + 16 * n ≡ 16 * passedBlocks (length (A ++ B)) = omega arith in
         with-same (stateOf stage v written A)
         (ap₂ (λ (x t : List ℕ). chain E x t n) (sym (chain-front E zeros A B p (omega arith))) text ∙ sym (chain-add E zeros (A ++ B) p n) ∙ ap (chain E zeros (A ++ B)) blocks)
@@ -136,7 +136,7 @@ module _ (key : List ℕ) (ss : List (List ℕ)) where
         let k : Subkeys = subkeys (zeroCipher E) in
         let d : List ℕ = headerResult E k ss in
         let front : length key / 2 ≡ length (macKey key) = simp length-take (omega arith) in
-        ap (tagFrom E k d (chain E zeros P (at / 16))) (held-state stage v written P ∙ ap (λ (n : ℕ). drop n P) whole)
+        ap (tagFrom E k d (chain E zeros P (at / 16))) (tail-state stage v written P ∙ ap (λ (n : ℕ). drop n P) whole)
         ∙ sym (tag-tail E k d P at refl)
         ∙ ap (λ (F : List ℕ → List ℕ). s2v F ss P) (aes-cipher (macKey key) front refl)
 

@@ -15,14 +15,14 @@ use Rattle.aes.specs.Aes.{aes}
 use Rattle.cmac.specs.Cmac.{zeros}
 use Rattle.header.specs.Header.{strings}
 use Rattle.ctr.specs.Counter.{xorStream}
-use Rattle.siv.specs.Answer.{first, verdict}
+use Rattle.siv.specs.Answer.{first, withoutLength}
 use Rattle.siv.specs.Calls.{limit, scratchNeed}
 use Rattle.siv.specs.Siv.{ctrKey, tagOf, streamed, opened, genuine}
 use Rattle.siv.proofs.Laws.{put-over}
 use Rattle.stream.specs.declared.Stream.{Stream}
 use Rattle.stream.specs.State.{ended, fits, added, tagOfState}
 use Rattle.stream.specs.Steps.{StepResult, doneStep, refusedStep, settle, feedRows, turned, streamedAt, addStep, turnStep, writeStep, closeStep, feedStep, finishStep}
-use Rattle.demands.specs.Model.{ModelState, wants, After, accepts, shown, outputBefore, outputAfter, modelAfter, countAfter, modelStep}
+use Rattle.demands.specs.Model.{ModelState, wants, After, wholeAccepts, shown, outputBefore, outputAfter, modelAfter, countAfter, modelStep}
 use Rattle.demands.specs.Run.{Begin, sealer, opener, Call, add, turn, write, close, feed, finish, call, sharedAfter}
 use Rattle.demands.specs.Whole.{Admits}
 use Rattle.demands.proofs.Pieces.{stateOf, join, fits-state, tag-state, stream-state, streamed-append, streamed-rest}
@@ -106,7 +106,7 @@ module _ (key bytes lens shared : List ℕ) (a : Admits key bytes lens) where
 
   -- the model's refusal, and what it says of success and of 8
   abbrev pub refusedAfter : Begin → ModelState → Call → ℕ → After
-  refusedAfter begin b c n = record { model = b; entry = record { outcome = verdict n; output = outputBefore key bytes lens begin shared b c } }
+  refusedAfter begin b c n = record { model = b; entry = record { outcome = withoutLength n; output = outputBefore key bytes lens begin shared b c } }
 
   abbrev pub doneAfter : Begin → ModelState → Call → ℕ → After
   doneAfter begin b c n =
@@ -149,7 +149,7 @@ module _ (key bytes lens shared : List ℕ) (a : Admits key bytes lens) where
   wrong : (begin : Begin) (b : ModelState) (s : Stream) (o : List ℕ) (c : Call) → Known key bytes lens shared begin b s o → eqb (b .stage) (wants c) ≡ false → Steps begin b s o c
   wrong begin b s o c k e =
       steps begin b s o c (refusedStep 9 s (lent o c)) (refusedAfter begin b c 9) (call-wrong s o c (ap (λ (n : ℕ). eqb n (wants c)) (known-stage begin b s o k) ∙ e)) (model-wrong begin b c e)
-      (ap (λ (l : List ℕ). record { outcome = verdict 9; output = l }) (lent-before begin b o c (known-shown begin b s o k)))
+      (ap (λ (l : List ℕ). record { outcome = withoutLength 9; output = l }) (lent-before begin b o c (known-shown begin b s o k)))
       (subst (Known key bytes lens shared begin b s) (sym (unchanged o c)) k)
 
   -- ---- the sealer's calls in the stages that they want
@@ -328,8 +328,8 @@ module _ (key bytes lens shared : List ℕ) (a : Admits key bytes lens) where
     unfolding genuine SF y
     genuine-fed = ap₂ same (tag-state key ss (a .keyed) 3 T 0 P ∙ ap (tagOf key ss) (sym opened-fed)) (sym front)
 
-    pub accepts-genuine : accepts key bytes lens T A ≡ genuine key (strings bytes lens) (T ++ A)
-    unfolding accepts
+    pub accepts-genuine : wholeAccepts key bytes lens T A ≡ genuine key (strings bytes lens) (T ++ A)
+    unfolding wholeAccepts
     accepts-genuine =
         let room : List ℕ = replicate (length A) 0 in
         let scratch : List ℕ = replicate (scratchNeed (length A)) 0 in
@@ -359,7 +359,7 @@ module _ (key bytes lens shared : List ℕ) (a : Admits key bytes lens) where
     unfolding finishStep modelStep SF ss bF P o
     finish-step = go (genuine key (strings bytes lens) (T ++ A)) genuine-fed accepts-genuine
       where
-        go : (t : Bool) → same (tagOfState SF) T ≡ t → accepts key bytes lens T A ≡ t
+        go : (t : Bool) → same (tagOfState SF) T ≡ t → wholeAccepts key bytes lens T A ≡ t
             → Steps (opener T) (modelOf 3 A []) (stateOf key (strings bytes lens) 3 T 0 (streamed key T A)) (put shared 0 (streamed key T A)) finish
         go true g h =
             let last : o ≡ shown key bytes lens (opener T) shared (modelOf 0 A []) =
@@ -371,7 +371,7 @@ module _ (key bytes lens shared : List ℕ) (a : Admits key bytes lens) where
             let last : put o 0 (replicate (length P) 0) ≡ shown key bytes lens (opener T) shared (modelOf 0 A []) =
             wiped ∙ ap (put shared 0) (sym (ap (λ (t : Bool). cond t (opened key (T ++ A)) (replicate (length A) 0)) h)) in
             steps (opener T) bF SF o finish (refusedStep 8 ended (put o 0 (replicate (length P) 0))) (doneAfter (opener T) bF finish 8) (simp (fittingF, enough, g)) (simp h)
-            (ap (λ (x : List ℕ). record { outcome = verdict 8; output = x }) last)
+            (ap (λ (x : List ℕ). record { outcome = withoutLength 8; output = x }) last)
             (finished T A (put o 0 (replicate (length P) 0)) last)
 
   -- ---- any call

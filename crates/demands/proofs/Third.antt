@@ -15,14 +15,14 @@ use Rattle.aes.specs.Aes.{aes}
 use Rattle.cmac.specs.Cmac.{zeros}
 use Rattle.header.specs.Header.{total, strings}
 use Rattle.ctr.specs.Counter.{xorStream}
-use Rattle.siv.specs.Answer.{Outcome, verdict}
+use Rattle.siv.specs.Answer.{Outcome, withoutLength}
 use Rattle.siv.specs.Calls.{limit, scratchNeed, openCall}
 use Rattle.siv.specs.Siv.{ctrKey, tagOf, streamed, sealed, opened, genuine}
 use Rattle.siv.proofs.Laws.{openJudged, length-opened}
 use Rattle.stream.specs.declared.Stream.{Stream}
 use Rattle.stream.specs.State.{ended}
 use Rattle.stream.specs.Steps.{StepResult, doneStep, beginSealer, beginOpener}
-use Rattle.demands.specs.Model.{ModelState, After, fresh, wants, accepts, outputBefore, modelNumber, modelStep, modelRun}
+use Rattle.demands.specs.Model.{ModelState, After, fresh, wants, wholeAccepts, outputBefore, modelNumber, modelStep, modelRun}
 use Rattle.demands.specs.Run.{Begin, sealer, opener, Call, add, turn, write, close, feed, finish, begun, Entry, run}
 use Rattle.demands.specs.Third.{onePiece, gaveBy, gave, noFinish, AsModel, AsSealed, fed, AsOpened, ThirdDemand}
 use Rattle.demands.specs.Whole.{Admits}
@@ -155,7 +155,7 @@ module _ (key bytes lens : List ℕ) (a : Admits key bytes lens) where
         gave-by b c (refusedAfter key bytes lens shared a sealer b c n) e
         (ap (λ (l : List ℕ). soFar b ++ l) (none c (outputBefore key bytes lens sealer shared b c)) ∙ append-nil (soFar b))
       where
-        none : (c : Call) (l : List ℕ) → gaveBy c (record { outcome = verdict n; output = l }) ≡ []
+        none : (c : Call) (l : List ℕ) → gaveBy c (record { outcome = withoutLength n; output = l }) ≡ []
         none (add piece) l = refl
         none (turn output) l = refl
         none (write piece output) l = refl
@@ -337,7 +337,7 @@ module _ (key bytes lens : List ℕ) (a : Admits key bytes lens) where
         passes : openJudged key bytes lens y output scratch ≡ 0
         passes = judged key bytes lens y output scratch a (omega (arith, long)) (omega (arith, long)) (omega (arith, long)) (omega (arith, long))
 
-        said : (t : Bool) → accepts key bytes lens T (b .A) ≡ t
+        said : (t : Bool) → wholeAccepts key bytes lens T (b .A) ≡ t
             → modelStep key bytes lens (opener T) shared b finish .entry
             ≡ record {
               outcome = record { number = cond (not t) 8 0; count = cond t (length (b .A)) 0 };

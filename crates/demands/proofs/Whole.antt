@@ -4,18 +4,17 @@ use mathlib.Core.Path.{_≡_, refl, ap, sym, subst, _∙_}
 use mathlib.Core.Bool.{Bool, true, false, not, cond}
 use mathlib.Core.List.{List, [], _∷_, _++_}
 use Prim.Native.Nat.{ℕ, _+_, _-_, _≤_}
-use native.Mathlib.Decide.{ℕ-discrete}
 use native.Mathlib.Omega.{arith}
 use lib.ListN.{length, take, replicate}
 use borrow.Author.Tests.{le-ltb, eq-eqb}
 use Rattle.octets.specs.Octets.{put}
 use Rattle.octets.proofs.Strings.{take-put}
 use Rattle.header.specs.Header.{total, strings}
-use Rattle.siv.specs.Answer.{Outcome, Row, row, verdict}
+use Rattle.siv.specs.Answer.{Outcome, success, withoutLength, Row, row}
 use Rattle.siv.specs.Calls.{limit, scratchNeed, headerRows, openRows, sealNumber, sealCall, openNumber, openCall}
 use Rattle.siv.specs.Siv.{sealed, opened, genuine}
-use Rattle.siv.proofs.Laws.{first-pass, first-stop, openJudged, open-admits, length-opened}
-use Rattle.demands.specs.Whole.{Admits, success, Gives, Second, SealsTo, ThirdWhole}
+use Rattle.siv.proofs.Laws.{first-none, first-pass, openJudged, open-admits, length-opened}
+use Rattle.demands.specs.Whole.{Admits, Gives, Second, SealsTo, ThirdWhole}
 use Rattle.demands.proofs.Siv.{length-sealed, opened-sealed, genuine-sealed, sealed-opened}
 
 -- ---- sealing
@@ -55,11 +54,7 @@ module _ (key bytes lens y output scratch : List ℕ) where
   -- a number of 0 passed the judgement
   judged-zero : openNumber key bytes lens y output scratch ≡ 0 → openJudged key bytes lens y output scratch ≡ 0
   unfolding openNumber rows forgery
-  judged-zero e = go (ℕ-discrete (openJudged key bytes lens y output scratch) 0)
-    where
-      go : Dec (openJudged key bytes lens y output scratch ≡ 0) → openJudged key bytes lens y output scratch ≡ 0
-      go (yes j) = j
-      go (no j) = absurd (j (sym (first-stop rows forgery j) ∙ e))
+  judged-zero e = first-none rows forgery refl e .0
 
   genuine-zero : openNumber key bytes lens y output scratch ≡ 0 → genuine key (strings bytes lens) y ≡ true
   genuine-zero e = go (genuine key (strings bytes lens) y) (sym (by-tag (judged-zero e)) ∙ e)
@@ -77,7 +72,7 @@ module _ (key bytes lens y output scratch : List ℕ) where
       (simp number (ap success (sym (length-opened key y))), simp number)
 
   pub open-wipes : openJudged key bytes lens y output scratch ≡ 0 → genuine key (strings bytes lens) y ≡ false
-      → (openCall key bytes lens y output scratch .outcome ≡ verdict 8) × (openCall key bytes lens y output scratch .output ≡ put output 0 (replicate (length y - 16) 0))
+      → (openCall key bytes lens y output scratch .outcome ≡ withoutLength 8) × (openCall key bytes lens y output scratch .output ≡ put output 0 (replicate (length y - 16) 0))
   unfolding openCall
   open-wipes j g =
       let number : openNumber key bytes lens y output scratch ≡ 8 = by-tag j ∙ ap (λ (b : Bool). cond (not b) 8 0) g in
@@ -132,7 +127,7 @@ module _ (key bytes lens y output scratch : List ℕ) where
     whole-refuses none e = none (opened key y) (zero-seals e)
 
     whole-wipes : ((P : List ℕ) → SealsTo key bytes lens y P → ⊥) → 16 ≤ length y → length y ≤ limit + 16
-        → (openCall key bytes lens y output scratch .outcome ≡ verdict 8) × (openCall key bytes lens y output scratch .output ≡ put output 0 (replicate (length y - 16) 0))
+        → (openCall key bytes lens y output scratch .outcome ≡ withoutLength 8) × (openCall key bytes lens y output scratch .output ≡ put output 0 (replicate (length y - 16) 0))
     whole-wipes none tagged limited = open-wipes (judged tagged limited) (go (genuine key (strings bytes lens) y) refl)
       where
         go : (b : Bool) → genuine key (strings bytes lens) y ≡ b → genuine key (strings bytes lens) y ≡ false

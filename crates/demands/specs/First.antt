@@ -1,22 +1,22 @@
 -- The first demand: every call gives the complete result, or the one refusal that is first due, with state and buffers as document 01's table says.
 -- Assumes nothing.
 use mathlib.Core.Path.{_≡_}
-use mathlib.Core.Bool.{Bool, true, false, not, cond}
-use mathlib.Core.List.{List, [], _∷_, _++_}
+use mathlib.Core.Bool.{Bool, true, false, cond}
+use mathlib.Core.List.{List, [], _∷_}
 use Prim.Native.Nat.{ℕ, _+_, _-_}
 use lib.Dec.{eqb}
 use lib.ListN.{length, replicate}
-use Rattle.octets.specs.Octets.{put, same}
+use Rattle.octets.specs.Octets.{put}
 use Rattle.cmac.specs.Cmac.{zeros}
 use Rattle.header.specs.Header.{strings}
 use Rattle.siv.specs.declared.Answer.{Answer}
 use Rattle.siv.specs.Answer.{Row, row, outcomeOf}
-use Rattle.siv.specs.Calls.{CallResult, scratchNeed, headerRows, sealRows, openRows, sealCall, openCall}
-use Rattle.siv.specs.Siv.{sealed, opened, genuine}
+use Rattle.siv.specs.Calls.{CallResult, scratchNeed, headerRows, sealTable, sealCall, openTable, openCall}
+use Rattle.siv.specs.Siv.{sealed, opened}
 use Rattle.stream.specs.declared.Stream.{Stream}
 use Rattle.stream.specs.State.{ended, start, added, tagOfState}
-use Rattle.stream.specs.Steps.{StepResult, doneStep, refusedStep, beginSealer, openerRows, beginOpener, addRows, addStep, turnRows, turned, turnStep, writeRows, wrote, streamedAt, writeStep, closeRows, closeStep, feedRows, feedStep, finishRows, finishStep}
-use Rattle.kinphlor.specs.Interface.{aeadLens, fromC}
+use Rattle.stream.specs.Steps.{StepResult, doneStep, refusedStep, beginSealer, openerRows, beginOpener, addRows, addStep, turnRows, turned, turnStep, writeRows, wrote, streamedAt, writeStep, closeRows, closeStep, feedRows, feedStep, finishTable, finishStep}
+use Rattle.kinphlor.specs.Interface.{aeadLens, sealFromC, openFromC}
 
 -- document 01's order of refusals
 abbrev pub order : List ℕ
@@ -40,30 +40,21 @@ abbrev pub Leaves : CallResult → ℕ → ℕ → List ℕ → List ℕ → Typ
 Leaves result number count output scratch = (result .outcome ≡ record { number = number; count = count }) × (result .output ≡ output) × (result .scratch ≡ scratch)
 
 module _ (key bytes lens input output scratch : List ℕ) where
-  -- the rows of sealing and of opening
-  abbrev pub sealTable : List Row
-  sealTable = headerRows (length key) lens (length bytes) ++ sealRows (length input) (length output) (length scratch)
-
-  abbrev pub openTable : List Row
-  openTable =
-      headerRows (length key) lens (length bytes) ++ openRows (length input) (length output) (length scratch)
-      ++ (row 8 (not (genuine key (strings bytes lens) input)) ∷ [])
-
   -- the scratch that n bytes need, zero
   abbrev pub cleared : ℕ → List ℕ
   cleared n = put scratch 0 (replicate (scratchNeed n) 0)
 
   pub record FirstSeal : Type 0 where
-    pub ordered : keeps order sealTable ≡ true
-    pub first : FirstDue sealTable (sealCall key bytes lens input output scratch .outcome .number)
+    pub ordered : keeps order (sealTable key bytes lens input output scratch) ≡ true
+    pub first : FirstDue (sealTable key bytes lens input output scratch) (sealCall key bytes lens input output scratch .outcome .number)
     pub done : sealCall key bytes lens input output scratch .outcome .number ≡ 0
         → Leaves (sealCall key bytes lens input output scratch) 0 (length input + 16) (put output 0 (sealed key (strings bytes lens) input)) (cleared (length input))
     pub refused : (n : ℕ) → sealCall key bytes lens input output scratch .outcome .number ≡ n → (n ≡ 0 → ⊥)
         → Leaves (sealCall key bytes lens input output scratch) n 0 output scratch
 
   pub record FirstOpen : Type 0 where
-    pub ordered : keeps order openTable ≡ true
-    pub first : FirstDue openTable (openCall key bytes lens input output scratch .outcome .number)
+    pub ordered : keeps order (openTable key bytes lens input output scratch) ≡ true
+    pub first : FirstDue (openTable key bytes lens input output scratch) (openCall key bytes lens input output scratch .outcome .number)
     pub done : openCall key bytes lens input output scratch .outcome .number ≡ 0
         → Leaves (openCall key bytes lens input output scratch) 0 (length input - 16) (put output 0 (opened key input)) (cleared (length input - 16))
     pub forged : openCall key bytes lens input output scratch .outcome .number ≡ 8
@@ -79,11 +70,11 @@ rowsFromC nonce [] = []
 rowsFromC nonce (r ∷ rs) = r ∷ row 10 (eqb nonce 0) ∷ rs
 
 -- the interface over a whole call with its table: 10 with all lent memory untouched, or what the call gave
-pub record FirstFromC (table : List Row) (nonce : ℕ) (key output scratch : List ℕ) (call : CallResult) : Type 0 where
+pub record FirstFromC (table : List Row) (nonce : ℕ) (output scratch : List ℕ) (call result : CallResult) : Type 0 where
   pub ordered : keeps order (rowsFromC nonce table) ≡ true
-  pub first : FirstDue (rowsFromC nonce table) (fromC nonce key output scratch call .outcome .number)
-  pub empty : fromC nonce key output scratch call .outcome .number ≡ 10 → Leaves (fromC nonce key output scratch call) 10 0 output scratch
-  pub otherwise : (fromC nonce key output scratch call .outcome .number ≡ 10 → ⊥) → fromC nonce key output scratch call ≡ call
+  pub first : FirstDue (rowsFromC nonce table) (result .outcome .number)
+  pub empty : result .outcome .number ≡ 10 → Leaves result 10 0 output scratch
+  pub otherwise : (result .outcome .number ≡ 10 → ⊥) → result ≡ call
 
 -- ---- piecewise calls
 
@@ -93,10 +84,6 @@ pub record FirstStep (table : List Row) (result complete : StepResult) (s : Stre
   pub first : FirstDue table (result .outcome .number)
   pub done : result .outcome .number ≡ 0 → result ≡ complete
   pub refused : (n : ℕ) → result .outcome .number ≡ n → (n ≡ 0 → ⊥) → result ≡ refusedStep n s output
-
--- finish's rows
-abbrev pub finishTable : Stream → List ℕ → List Row
-finishTable s output = finishRows s (length output) ++ (row 8 (not (same (tagOfState s) (s .v))) ∷ [])
 
 -- finish: 8 ends the state and wipes the output's first total bytes
 pub record FirstFinish (s : Stream) (output : List ℕ) : Type 0 where
@@ -111,9 +98,11 @@ pub record First : Type 0 where
   pub sealing : (key bytes lens input output scratch : List ℕ) → FirstSeal key bytes lens input output scratch
   pub opening : (key bytes lens input output scratch : List ℕ) → FirstOpen key bytes lens input output scratch
   pub sealingFromC : (key header input output scratch : List ℕ) (ad nonce : ℕ)
-      → FirstFromC (sealTable key header (aeadLens ad nonce) input output scratch) nonce key output scratch (sealCall key header (aeadLens ad nonce) input output scratch)
+      → FirstFromC (sealTable key header (aeadLens ad nonce) input output scratch) nonce output scratch (sealCall key header (aeadLens ad nonce) input output scratch)
+      (sealFromC key header ad nonce input output scratch)
   pub openingFromC : (key header input output scratch : List ℕ) (ad nonce : ℕ)
-      → FirstFromC (openTable key header (aeadLens ad nonce) input output scratch) nonce key output scratch (openCall key header (aeadLens ad nonce) input output scratch)
+      → FirstFromC (openTable key header (aeadLens ad nonce) input output scratch) nonce output scratch (openCall key header (aeadLens ad nonce) input output scratch)
+      (openFromC key header ad nonce input output scratch)
   pub beginningSealer : (key bytes lens : List ℕ)
       → FirstStep (headerRows (length key) lens (length bytes)) (beginSealer key bytes lens) (doneStep 0 (start key (strings bytes lens) 1 zeros) []) ended []
   pub beginningOpener : (key bytes lens tag : List ℕ)
@@ -129,4 +118,4 @@ pub record First : Type 0 where
       → FirstStep (feedRows s (length piece) (length output)) (feedStep s piece output)
       (doneStep (length piece) (added s (streamedAt s (s .total) piece)) (put output (s .total) (streamedAt s (s .total) piece))) s output
   pub finishing : (s : Stream) (output : List ℕ) → FirstFinish s output
-  pub told : (a b : Answer) → outcomeOf a ≡ outcomeOf b → a ≡ b
+  pub outcomeTells : (a b : Answer) → outcomeOf a ≡ outcomeOf b → a ≡ b

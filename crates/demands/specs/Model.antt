@@ -7,7 +7,7 @@ use lib.Dec.{eqb, ltb}
 use lib.ListN.{length, drop, replicate}
 use Rattle.octets.specs.Octets.{put}
 use Rattle.header.specs.Header.{strings}
-use Rattle.siv.specs.Answer.{Row, row, first, verdict}
+use Rattle.siv.specs.Answer.{Row, row, first, withoutLength}
 use Rattle.siv.specs.Calls.{limit, scratchNeed, openNumber}
 use Rattle.siv.specs.Siv.{tagOf, streamed, opened}
 use Rattle.demands.specs.Run.{Begin, sealer, opener, Call, add, turn, write, close, feed, finish, Entry}
@@ -48,9 +48,9 @@ module _ (key bytes lens : List ℕ) where
   abbrev pub sealTag : List ℕ → List ℕ
   sealTag A = tagOf key (strings bytes lens) A
 
-  -- whether whole opening, with buffers as large as it needs, accepts T followed by A
-  unfoldable pub accepts : List ℕ → List ℕ → Bool
-  accepts T A = eqb (openNumber key bytes lens (T ++ A) (replicate (length A) 0) (replicate (scratchNeed (length A)) 0)) 0
+  -- whether whole opening, with buffers as large as it needs, wholeAccepts T followed by A
+  unfoldable pub wholeAccepts : List ℕ → List ℕ → Bool
+  wholeAccepts T A = eqb (openNumber key bytes lens (T ++ A) (replicate (length A) 0) (replicate (scratchNeed (length A)) 0)) 0
 
   -- which begin, and the output shared by feed and finish as it was at first
   module _ (begin : Begin) (shared : List ℕ) where
@@ -59,16 +59,16 @@ module _ (key bytes lens : List ℕ) where
     shownBy sealer b = shared
     shownBy (opener T) b =
         cond (eqb (b .stage) 3) (put shared 0 (streamed key T (b .A)))
-        (put shared 0 (cond (accepts T (b .A)) (opened key (T ++ b .A)) (replicate (length (b .A)) 0)))
+        (put shared 0 (cond (wholeAccepts T (b .A)) (opened key (T ++ b .A)) (replicate (length (b .A)) 0)))
 
     -- the same, of the list's own begin
     abbrev pub shown : ModelState → List ℕ
     shown b = shownBy begin b
 
-    -- whether finish accepts; a sealer has no stage that finish wants
+    -- whether finish wholeAccepts; a sealer has no stage that finish wants
     abbrev pub acceptsBy : Begin → List ℕ → Bool
     acceptsBy sealer A = false
-    acceptsBy (opener T) A = accepts T A
+    acceptsBy (opener T) A = wholeAccepts T A
 
     -- the refusals of a call in the stage that it wants
     abbrev pub refusals : ModelState → Call → List Row
@@ -128,7 +128,7 @@ module _ (key bytes lens : List ℕ) where
           model = modelAfter b c;
           entry = record { outcome = record { number = n; count = cond (eqb n 0) (countAfter b c) 0 }; output = outputAfter b c };
         })
-        (record { model = b; entry = record { outcome = verdict n; output = outputBefore b c } })
+        (record { model = b; entry = record { outcome = withoutLength n; output = outputBefore b c } })
 
     abbrev pub modelRun : ModelState → List Call → ModelRun
     modelRun b [] = record { entries = []; model = b }

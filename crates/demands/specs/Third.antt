@@ -8,13 +8,14 @@ use lib.Dec.{eqb}
 use lib.ListN.{length, take, replicate}
 use Rattle.octets.specs.Octets.{put}
 use Rattle.header.specs.Header.{strings}
+use Rattle.siv.specs.Answer.{success}
 use Rattle.siv.specs.Calls.{scratchNeed, openCall}
 use Rattle.siv.specs.Siv.{streamed, sealed}
 use Rattle.stream.specs.State.{ended}
 use Rattle.stream.specs.Steps.{finishStep}
 use Rattle.demands.specs.Model.{ModelState, fresh, ModelRun, sealTag, shown, modelRun}
 use Rattle.demands.specs.Run.{Begin, sealer, opener, Call, add, turn, write, close, feed, finish, begun, Entry, Run, run}
-use Rattle.demands.specs.Whole.{Admits, success, ThirdWhole}
+use Rattle.demands.specs.Whole.{Admits, ThirdWhole}
 
 -- the same bytes in one piece: one add of A in stage 1; one add of A, turn and one write of W in stage 2; one feed of A in stage 3
 abbrev pub onePiece : ModelState → List Call

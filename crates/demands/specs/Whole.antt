@@ -7,7 +7,7 @@ use Prim.Native.Nat.{ℕ, _+_, _-_, _≤_}
 use lib.ListN.{length, replicate}
 use Rattle.octets.specs.Octets.{put}
 use Rattle.header.specs.Header.{total, strings}
-use Rattle.siv.specs.Answer.{Outcome, verdict}
+use Rattle.siv.specs.Answer.{success, withoutLength}
 use Rattle.siv.specs.Calls.{CallResult, isKeyLength, limit, scratchNeed, sealCall, openCall}
 use Rattle.siv.specs.Siv.{sealed}
 
@@ -16,10 +16,6 @@ pub record Admits (key bytes lens : List ℕ) : Type 0 where
   pub keyed : isKeyLength (length key) ≡ true
   pub few : length lens ≤ 126
   pub listed : total lens ≡ length bytes
-
--- success with n bytes
-abbrev pub success : ℕ → Outcome
-success n = record { number = 0; count = n }
 
 -- a call succeeded and put s, and nothing else, to the front of the output
 abbrev pub Gives : CallResult → List ℕ → List ℕ → Type 0
@@ -47,4 +43,4 @@ pub record ThirdWhole (key bytes lens y output scratch : List ℕ) : Type 0 wher
   pub refuses : ((P : List ℕ) → SealsTo key bytes lens y P → ⊥) → openCall key bytes lens y output scratch .outcome .number ≡ 0 → ⊥
   -- and if y has 16 to 1,048,592 bytes, it refuses with 8, and every output byte that a plaintext would have taken is zero
   pub wipes : ((P : List ℕ) → SealsTo key bytes lens y P → ⊥) → 16 ≤ length y → length y ≤ limit + 16
-      → (openCall key bytes lens y output scratch .outcome ≡ verdict 8) × (openCall key bytes lens y output scratch .output ≡ put output 0 (replicate (length y - 16) 0))
+      → (openCall key bytes lens y output scratch .outcome ≡ withoutLength 8) × (openCall key bytes lens y output scratch .output ≡ put output 0 (replicate (length y - 16) 0))

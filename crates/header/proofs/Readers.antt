@@ -21,7 +21,7 @@ use denote.Struct.Declared.{Declared}
 use denote.Struct.Laws as LL
 use denote.Struct.Rest.{all-own, ownAt, rest, own-open, own-out, own-shut}
 use Rattle.header.specs.declared.reader.Reader.{Reader}
-use Rattle.header.proofs.Walk.{Known, a-struct}
+use Rattle.header.proofs.Walk.{Walkable, a-struct}
 use Rattle.header.proofs.reader.Reader as T
 use Rattle.header.proofs.reader.Reader.Laws as T′
 
@@ -39,7 +39,7 @@ abbrev pub Bytes : Lft → RattleType
 Bytes κ = ShrSlice (named 0) κ u8
 
 module _ {M : Type 1} {𝓤 : URA M} {H : Heap 𝓤} {A : Atoms 𝓤} (W : Given 𝓤 H A) (κ : Lft) where
-  abbrev pub a-reader : Known 𝓤 H A (ReaderT κ)
+  abbrev pub a-reader : Walkable 𝓤 H A (ReaderT κ)
   a-reader = a-struct W (D κ) (L κ) (T′.the-copy (namedLft 1 0 tt (κ, tt)))
 
   module _ (r : Reader) where

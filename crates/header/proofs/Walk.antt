@@ -150,9 +150,9 @@ module _ {M : Type 1} (𝓤 : URA M) (H : Heap 𝓤) (A : Atoms 𝓤) where
   Lends P P′ = ent 𝓤 P (sep 𝓤 P′ (wand 𝓤 P′ P))
 
   -- F gives what each value of a list owns
-  abbrev Gives : Fml → (Ts : List RattleType) → Denots Ts → Valss Ts → Type 1
-  Gives F [] a vss = Unit {1}
-  Gives F (T ∷ Ts) a vss = ent 𝓤 (sem 𝓤 H A F) (sem 𝓤 H A (T .own (a .0) (vss .0))) × Gives F Ts (a .1) (vss .1)
+  abbrev Supplies : Fml → (Ts : List RattleType) → Denots Ts → Valss Ts → Type 1
+  Supplies F [] a vss = Unit {1}
+  Supplies F (T ∷ Ts) a vss = ent 𝓤 (sem 𝓤 H A F) (sem 𝓤 H A (T .own (a .0) (vss .0))) × Supplies F Ts (a .1) (vss .1)
 
   -- what value n of a list owns
   abbrev pub own-at : ℕ → (Ts : List RattleType) → Denots Ts → Valss Ts → Fml
@@ -184,7 +184,7 @@ module _ {M : Type 1} (𝓤 : URA M) (H : Heap 𝓤) (A : Atoms 𝓤) where
         qed W (‵ F ∷ ‵ G ∷ []) ∵ use1 W (‵ F ⊛ ‵ F) f $ split ! $ move ! (2 ∷ []) $ use1 W (‵ G ⊛ ‵ G) g $ split ! $ move ! (2 ∷ 0 ∷ 3 ∷ 1 ∷ []) $ fjoin ! $ done !
 
     -- F gives what all values of the list own
-    given-to : (F : Fml) → Twice F → (Ts : List RattleType) (a : Denots Ts) (vss : Valss Ts) → Gives F Ts a vss → ent 𝓤 (sem 𝓤 H A F) (sem 𝓤 H A (owns Ts a vss))
+    given-to : (F : Fml) → Twice F → (Ts : List RattleType) (a : Denots Ts) (vss : Valss Ts) → Supplies F Ts a vss → ent 𝓤 (sem 𝓤 H A F) (sem 𝓤 H A (owns Ts a vss))
     given-to F twice [] a vss gs = top 𝓤 (sem 𝓤 H A F)
     given-to F twice (T ∷ Ts) a vss gs =
         qed W (‵ F ∷ []) ∵ use1 W (‵ F ⊛ ‵ F) twice $ split ! $ use1 W (‵ (T .own (a .0) (vss .0))) (gs .0) $ frame ! $ by ! (given-to F twice Ts (a .1) (vss .1) (gs .1))
@@ -211,7 +211,7 @@ module _ {M : Type 1} {𝓤 : URA M} {H : Heap 𝓤} {A : Atoms 𝓤} {K : Type 
 -- ---- the types
 
 -- what a walk knows of a type: a value's machine values, which are of the MIR types, that what it owns can be had twice, and that a contract says nothing of it at exit
-pub record Known {M : Type 1} (𝓤 : URA M) (H : Heap 𝓤) (A : Atoms 𝓤) (T : RattleType) : Type 1 where
+pub record Walkable {M : Type 1} (𝓤 : URA M) (H : Heap 𝓤) (A : Atoms 𝓤) (T : RattleType) : Type 1 where
   pub vals : T .Denot → List Val
   pub tells : Tells T (Is T) vals
   pub lawful : Lawful 𝓤 H A T
@@ -220,40 +220,40 @@ pub record Known {M : Type 1} (𝓤 : URA M) (H : Heap 𝓤) (A : Atoms 𝓤) (T
 
 -- numbers, references, slices, arrays of numbers, and structs of such
 module _ {M : Type 1} {𝓤 : URA M} {H : Heap 𝓤} {A : Atoms 𝓤} (W : Given 𝓤 H A) where
-  abbrev pub a-number : (w : Width) → Known 𝓤 H A (UInt w)
+  abbrev pub a-number : (w : Width) → Walkable 𝓤 H A (UInt w)
   a-number w = record { vals = uint-vals w; tells = uint-tells w; lawful = uint-lawful 𝓤 H A W w; copies = uint-copy 𝓤 H A W w; still = λ k. refl }
 
-  abbrev pub a-ref : (ℓ : Lifetime) (κ : Lft) (T : RattleType) → Known 𝓤 H A (ShrRef ℓ κ T)
+  abbrev pub a-ref : (ℓ : Lifetime) (κ : Lft) (T : RattleType) → Walkable 𝓤 H A (ShrRef ℓ κ T)
   a-ref ℓ κ T = record { vals = ptr-vals; tells = shr-tells ℓ κ T; lawful = shr-lawful 𝓤 H A W ℓ κ T; copies = shr-copy 𝓤 H A W ℓ κ T; still = λ k. refl }
 
-  abbrev pub a-slice : (ℓ : Lifetime) (κ : Lft) (T : RattleType) → Known 𝓤 H A (ShrSlice ℓ κ T)
+  abbrev pub a-slice : (ℓ : Lifetime) (κ : Lft) (T : RattleType) → Walkable 𝓤 H A (ShrSlice ℓ κ T)
   a-slice ℓ κ T = record { vals = slice-vals; tells = shr-slice-tells ℓ κ T; lawful = shr-slice-lawful 𝓤 H A W ℓ κ T; copies = shr-slice-copy 𝓤 H A W ℓ κ T; still = λ k. refl }
 
-  abbrev pub an-array : (w : Width) (n : ℕ) → Known 𝓤 H A (Array (UInt w) n)
+  abbrev pub an-array : (w : Width) (n : ℕ) → Walkable 𝓤 H A (Array (UInt w) n)
   an-array w n = record { vals = array-vals (uint-vals w); tells = array-tells (UInt w) (uint-vals w) (uint-tells w) n; lawful = array-lawful 𝓤 H A W (UInt w) (uint-lawful 𝓤 H A W w) n; copies = array-copy 𝓤 H A W (UInt w) (uint-copy 𝓤 H A W w) n; still = λ k. refl }
 
-  abbrev pub a-struct : (T : Declared) → LL.Laws T → LL.Copyables (T .parts) → Known 𝓤 H A (row T)
+  abbrev pub a-struct : (T : Declared) → LL.Laws T → LL.Copyables (T .parts) → Walkable 𝓤 H A (row T)
   a-struct T L cs = record { vals = LL.vals T L; tells = LL.tells T L; lawful = LL.lawful T L 𝓤 H A W; copies = LL.copy T cs 𝓤 H A W; still = LL.still T cs }
 
 -- the same of each type of a list
 module _ {M : Type 1} (𝓤 : URA M) (H : Heap 𝓤) (A : Atoms 𝓤) where
-  abbrev pub Knowns : List RattleType → Type 1
-  Knowns [] = Unit {1}
-  Knowns (T ∷ Ts) = Known 𝓤 H A T × Knowns Ts
+  abbrev pub Walkables : List RattleType → Type 1
+  Walkables [] = Unit {1}
+  Walkables (T ∷ Ts) = Walkable 𝓤 H A T × Walkables Ts
 
-  abbrev spells : (Ts : List RattleType) → Knowns Ts → Spells Ts
+  abbrev spells : (Ts : List RattleType) → Walkables Ts → Spells Ts
   spells [] ks = tt
   spells (T ∷ Ts) ks = (ks .0 .vals, spells Ts (ks .1))
 
-  tellss : (Ts : List RattleType) (ks : Knowns Ts) → Tellss Ts (Ises Ts) (spells Ts ks)
+  tellss : (Ts : List RattleType) (ks : Walkables Ts) → Tellss Ts (Ises Ts) (spells Ts ks)
   tellss [] ks = tt
   tellss (T ∷ Ts) ks = (ks .0 .tells, tellss Ts (ks .1))
 
-  lawfuls : (Ts : List RattleType) → Knowns Ts → Lawfuls 𝓤 H A Ts
+  lawfuls : (Ts : List RattleType) → Walkables Ts → Lawfuls 𝓤 H A Ts
   lawfuls [] ks = tt
   lawfuls (T ∷ Ts) ks = (ks .0 .lawful, lawfuls Ts (ks .1))
 
-  all-twice : Given 𝓤 H A → (Ts : List RattleType) → Knowns Ts → (a : Denots Ts) (vss : Valss Ts) → Twice 𝓤 H A (owns Ts a vss)
+  all-twice : Given 𝓤 H A → (Ts : List RattleType) → Walkables Ts → (a : Denots Ts) (vss : Valss Ts) → Twice 𝓤 H A (owns Ts a vss)
   all-twice W [] ks a vss = emp∗ 𝓤 (emp 𝓤)
   all-twice W (T ∷ Ts) ks a vss = both-twice 𝓤 H A W (T .own (a .0) (vss .0)) (owns Ts (a .1) (vss .1)) (ks .0 .copies .twice (a .0) (vss .0)) (all-twice W Ts (ks .1) (a .1) (vss .1))
 
@@ -264,13 +264,13 @@ spent (s ∷ ss) ks = (stay-dropped s (ks .0), spent ss (ks .1))
 
 module _ {M : Type 1} (𝓤 : URA M) (H : Heap 𝓤) (A : Atoms 𝓤) {n : ℕ} where
   -- so nothing is lost
-  go : (W : Given 𝓤 H A) (ss : List (Slot n)) (ks : Kepts ss) → ((κs : Lfts n) → Knowns 𝓤 H A (typesAt ss κs)) → AllGo 𝓤 H A W n ss ks (spent ss ks)
+  go : (W : Given 𝓤 H A) (ss : List (Slot n)) (ks : Kepts ss) → ((κs : Lfts n) → Walkables 𝓤 H A (typesAt ss κs)) → AllGo 𝓤 H A W n ss ks (spent ss ks)
   go W [] ks ps = tt
   go W (s ∷ ss) ks ps =
       (goes-dropped 𝓤 H A W n s (ks .0) (λ κs x. subst (λ (e : Exit (s .row κs .Denot)). (f : Last e x) → left e x f ≡ ftrue) (sym (ps κs .0 .still (ks .0))) (λ f. refl)), go W ss (ks .1) (λ κs. ps κs .1))
 
   -- what is bound of the parameters at exit, and had
-  lasting : (ss : List (Slot n)) (ks : Kepts ss) (κs : Lfts n) → Knowns 𝓤 H A (typesAt ss κs) → (a : Denots (typesAt ss κs)) (vss : Valss (typesAt ss κs)) → (ws : Fins κs ss ks a) × fitsOf κs ss ks (spent ss ks) a ws × ent 𝓤 (emp 𝓤) (sem 𝓤 H A (hasOf κs ss ks (spent ss ks) a ws vss))
+  lasting : (ss : List (Slot n)) (ks : Kepts ss) (κs : Lfts n) → Walkables 𝓤 H A (typesAt ss κs) → (a : Denots (typesAt ss κs)) (vss : Valss (typesAt ss κs)) → (ws : Fins κs ss ks a) × fitsOf κs ss ks (spent ss ks) a ws × ent 𝓤 (emp 𝓤) (sem 𝓤 H A (hasOf κs ss ks (spent ss ks) a ws vss))
   lasting [] ks κs ps a vss = (tt, tt, id⊢ 𝓤 (emp 𝓤))
   lasting (s ∷ ss) ks κs ps a vss =
       let rest = lasting ss (ks .1) κs (ps .1) (a .1) (vss .1) in
@@ -279,80 +279,80 @@ module _ {M : Type 1} (𝓤 : URA M) (H : Heap 𝓤) (A : Atoms 𝓤) {n : ℕ} 
 -- ---- a function with the signature and clauses T and c, as it is called and as it is walked
 module _ {M : Type 1} (𝓤 : URA M) (H : Heap 𝓤) (A : Atoms 𝓤) (T : Ended) (c : Clauses 𝓤 T) where
   -- what a call binds: lifetimes, shares, arguments and their machine values
-  abbrev pub Entry : Type 0
-  Entry = (x : Bound 𝓤 H A (T .signature)) × c (x .0) (x .3) .ghost
+  abbrev pub Binding : Type 0
+  Binding = (x : Bound 𝓤 H A (T .signature)) × c (x .0) (x .3) .ghost
 
   -- its tokens, what its parameters own, and its result's type
-  abbrev pub Tokens : Entry → SProp 𝓤
+  abbrev pub Tokens : Binding → SProp 𝓤
   Tokens y = alive 𝓤 H A (T .signature) (y .0 .0) (y .0 .1)
 
-  abbrev pub Owned : Entry → Fml
+  abbrev pub Owned : Binding → Fml
   Owned y = owns (typesAt (T .signature .params) (y .0 .0)) (y .0 .3) (y .0 .4)
 
-  abbrev pub Result : Entry → RattleType
-  Result y = typeAt (T .signature .result) (y .0 .0)
+  abbrev pub ResultOf : Binding → RattleType
+  ResultOf y = typeAt (T .signature .result) (y .0 .0)
 
   -- that the function meets its contract, as a caller knows it of the routine f
   abbrev pub Knows : Calls 𝓤 H → Name → Type 1
   Knows C f = Triple 𝓤 (C f) (tripleOf 𝓤 H A (T .signature) (closing 𝓤 H A T c))
 
   -- what it ensures gives φ of the result
-  abbrev pub Ensures : (y : Entry) → (Result y .Denot → Type 0) → Type 1
-  Ensures y φ = (r : Result y .Denot) (ws : Lasts T (y .0 .0) (y .0 .3)) → ent 𝓤 (c (y .0 .0) (y .0 .3) .ensures (y .1) r (atExit T (y .0 .0) (y .0 .3) ws)) (fact 𝓤 (φ r))
+  abbrev pub Ensures : (y : Binding) → (ResultOf y .Denot → Type 0) → Type 1
+  Ensures y φ = (r : ResultOf y .Denot) (ws : Lasts T (y .0 .0) (y .0 .3)) → ent 𝓤 (c (y .0 .0) (y .0 .3) .ensures (y .1) r (atExit T (y .0 .0) (y .0 .3) ws)) (fact 𝓤 (φ r))
 
   -- it can be called where P and F are had
-  pub record Asked (y : Entry) (P : SProp 𝓤) (F : Fml) : Type 1 where
+  pub record Asked (y : Binding) (P : SProp 𝓤) (F : Fml) : Type 1 where
     pub lends : Lends 𝓤 H A P (Tokens y)
     pub twice : Twice 𝓤 H A F
-    pub gives : Gives 𝓤 H A F (typesAt (T .signature .params) (y .0 .0)) (y .0 .3) (y .0 .4)
+    pub gives : Supplies 𝓤 H A F (typesAt (T .signature .params) (y .0 .0)) (y .0 .3) (y .0 .4)
     pub met : ent 𝓤 (emp 𝓤) (c (y .0 .0) (y .0 .3) .requires (y .1))
 
   -- what parameter n owns
-  pub param : (n : ℕ) (y : Entry) → ent 𝓤 (sem 𝓤 H A (Owned y)) (sem 𝓤 H A (own-at 𝓤 H A n (typesAt (T .signature .params) (y .0 .0)) (y .0 .3) (y .0 .4)))
+  pub param : (n : ℕ) (y : Binding) → ent 𝓤 (sem 𝓤 H A (Owned y)) (sem 𝓤 H A (own-at 𝓤 H A n (typesAt (T .signature .params) (y .0 .0)) (y .0 .3) (y .0 .4)))
   param n y = nth-own 𝓤 H A n (typesAt (T .signature .params) (y .0 .0)) (y .0 .3) (y .0 .4)
 
   -- ---- its walk
 
   -- what the walk knows of the parameters' types, and with it what the function is called with
   abbrev pub Params : Lfts (T .signature .lifetimes) → Type 1
-  Params κs = Knowns 𝓤 H A (typesAt (T .signature .params) κs)
+  Params κs = Walkables 𝓤 H A (typesAt (T .signature .params) κs)
 
-  abbrev pub enters : (κs : Lfts (T .signature .lifetimes)) → Params κs → Shares (T .signature .lifetimes) → AllOutlive (T .signature .lifetimes) (T .signature .outlives) κs → (a : Args (T .signature) κs) → c κs a .ghost → Entry
+  abbrev pub enters : (κs : Lfts (T .signature .lifetimes)) → Params κs → Shares (T .signature .lifetimes) → AllOutlive (T .signature .lifetimes) (T .signature .outlives) κs → (a : Args (T .signature) κs) → c κs a .ghost → Binding
   enters κs ps qs bounds a g = ((κs, qs, bounds, a, valss (typesAt (T .signature .params) κs) (spells 𝓤 H A (typesAt (T .signature .params) κs) ps) a), g)
 
   -- what the parameters own can be had twice
-  pub owned-twice : Given 𝓤 H A → (y : Entry) → Params (y .0 .0) → Twice 𝓤 H A (Owned y)
+  pub owned-twice : Given 𝓤 H A → (y : Binding) → Params (y .0 .0) → Twice 𝓤 H A (Owned y)
   owned-twice W y ps = all-twice 𝓤 H A W (typesAt (T .signature .params) (y .0 .0)) ps (y .0 .3) (y .0 .4)
 
   -- what is had at the start, and what is shown at the end
-  abbrev pub Start : Entry → Item 𝓤
+  abbrev pub Start : Binding → Item 𝓤
   Start y = Had 𝓤 H A (Tokens y) (Owned y)
 
-  abbrev pub End : Entry → Val → SProp 𝓤
+  abbrev pub End : Binding → Val → SProp 𝓤
   End = walkOf 𝓤 H A T (spent (T .signature .params) (T .kept)) c .post
 
   -- the arguments' machine values are theirs, and of the MIR types: the code runs from the start to the end
-  abbrev pub Walked : Calls 𝓤 H → Loops 𝓤 H → Fn → Entry → Type 1
+  abbrev pub Walked : Calls 𝓤 H → Loops 𝓤 H → Fn → Binding → Type 1
   Walked C Λ e y = Are (typesAt (T .signature .params) (y .0 .0)) (Ises (typesAt (T .signature .params) (y .0 .0))) (y .0 .3) (y .0 .4) → Typed (mirs (typesAt (T .signature .params) (y .0 .0))) (passed 𝓤 H A (T .signature) (y .0))
       → ent 𝓤 (mean 𝓤 H A (Start y)) (WpFn 𝓤 H C Λ e (passed 𝓤 H A (T .signature) (y .0)) (End y))
 
   -- what is had gives what the result r owns at u, and r meets the contract: u may be returned
-  pub ends : {K : Type 0} {W : Given 𝓤 H A} {F : Fml} → K → (y : Entry) → Params (y .0 .0) → (r : Result y .Denot) (u : Val) → ent 𝓤 (sem 𝓤 H A F) (sem 𝓤 H A (Result y .own r (u ∷ [])))
+  pub ends : {K : Type 0} {W : Given 𝓤 H A} {F : Fml} → K → (y : Binding) → Params (y .0 .0) → (r : ResultOf y .Denot) (u : Val) → ent 𝓤 (sem 𝓤 H A F) (sem 𝓤 H A (ResultOf y .own r (u ∷ [])))
       → ((ws : Lasts T (y .0 .0) (y .0 .3)) → ent 𝓤 (emp 𝓤) (c (y .0 .0) (y .0 .3) .ensures (y .1) r (atExit T (y .0 .0) (y .0 .3) ws))) → Seq K W (Had 𝓤 H A (Tokens y) F ∷ []) (prop (End y u))
   ends {W = W} t y ps r u gives met =
       let ss = T .signature .params in
       let κs = y .0 .0 in
       let last = lasting 𝓤 H A ss (T .kept) κs ps (y .0 .3) (y .0 .4) in
-      suffices t _ (ends-at 𝓤 H A T (spent ss (T .kept)) c W y u r (last .0) (last .1)) $ split t $ move t (1 ∷ []) $ use1 W (‵ (Result y .own r (u ∷ []))) gives $
+      suffices t _ (ends-at 𝓤 H A T (spent ss (T .kept)) c W y u r (last .0) (last .1)) $ split t $ move t (1 ∷ []) $ use1 W (‵ (ResultOf y .own r (u ∷ []))) gives $
       use0 W (‵ (hasOf κs ss (T .kept) (spent ss (T .kept)) (y .0 .3) (last .0) (y .0 .4))) (last .2) $
       -- [what is had of the parameters; what the result owns; the tokens]
       move t (2 ∷ 0 ∷ 1 ∷ []) $ group t 3 $ frame t $ use0 W (raw (c κs (y .0 .3) .ensures (y .1) r (atExit T κs (y .0 .3) (last .0)))) (met (last .0)) $ done t
 
 -- a call. The result r comes at the machine value that its type tells, with φ, and what is had stays
 module _ {M : Type 1} {𝓤 : URA M} {H : Heap 𝓤} {A : Atoms 𝓤} {K : Type 0} {W : Given 𝓤 H A} {Γ : List (Item 𝓤)} {E : Env 𝓤 H} {C : Calls 𝓤 H} {Λ : Loops 𝓤 H} {q : Post 𝓤 H} {f : Name} {xs : List Operand} {d : Place} {rest : Body} {P : SProp 𝓤} {F : Fml} where
-  pub asks : K → FmC 𝓤 H (W .laws) C → (T : Ended) (c : Clauses 𝓤 T) → Knows 𝓤 H A T c C f → (y : Entry 𝓤 H A T c) → Asked 𝓤 H A T c y P F → (R : Known 𝓤 H A (Result 𝓤 H A T c y)) (φ : Result 𝓤 H A T c y .Denot → Type 0) → Ensures 𝓤 H A T c y φ
+  pub asks : K → FmC 𝓤 H (W .laws) C → (T : Ended) (c : Clauses 𝓤 T) → Knows 𝓤 H A T c C f → (y : Binding 𝓤 H A T c) → Asked 𝓤 H A T c y P F → (R : Walkable 𝓤 H A (ResultOf 𝓤 H A T c y)) (φ : ResultOf 𝓤 H A T c y .Denot → Type 0) → Ensures 𝓤 H A T c y φ
       → Opds K W (Had 𝓤 H A P F ∷ Γ) E xs (passed 𝓤 H A (T .signature) (y .0))
-      → ((r : Result 𝓤 H A T c y .Denot) → φ r → Is (Result 𝓤 H A T c y) r (only (R .vals r) ∷ []) → Seq K W (‵ (Result 𝓤 H A T c y .own r (only (R .vals r) ∷ [])) ∷ Had 𝓤 H A P F ∷ Γ) (lands C Λ E d (only (R .vals r)) rest q))
+      → ((r : ResultOf 𝓤 H A T c y .Denot) → φ r → Is (ResultOf 𝓤 H A T c y) r (only (R .vals r) ∷ []) → Seq K W (‵ (ResultOf 𝓤 H A T c y .own r (only (R .vals r) ∷ [])) ∷ Had 𝓤 H A P F ∷ Γ) (lands C Λ E d (only (R .vals r)) rest q))
       → Seq K W (Had 𝓤 H A P F ∷ Γ) (runs C Λ E (seq (call f xs d) rest) q)
   asks t fm T c knows y asked known φ said os k =
       let S = T .signature in
@@ -361,7 +361,7 @@ module _ {M : Type 1} {𝓤 : URA M} {H : Heap 𝓤} {A : Atoms 𝓤} {K : Type 
       let c′ = tripleOf 𝓤 H A S (closing 𝓤 H A T c) in
       let Q = Tokens 𝓤 H A T c y in
       let B = raw (wand 𝓤 Q P) ⊛ ‵ F in
-      let R = Result 𝓤 H A T c y in
+      let R = ResultOf 𝓤 H A T c y in
       calls-from t fm (Had 𝓤 H A P F) (passed 𝓤 H A S (y .0)) (λ u. sep 𝓤 (c′ .post y u) (mean 𝓤 H A B))
       (via 𝓤 (sep 𝓤 (c′ .pre y) (mean 𝓤 H A B))
       (qed W (raw P ∷ ‵ F ∷ []) ∵ use1 W (raw Q ⊛ raw (wand 𝓤 Q P)) (asked .lends) $ split ! $ move ! (2 ∷ []) $ use1 W (‵ F ⊛ ‵ F) (asked .twice) $ split ! $
@@ -378,11 +378,11 @@ module _ {M : Type 1} {𝓤 : URA M} {H : Heap 𝓤} {A : Atoms 𝓤} {K : Type 
       subst (λ (v : Val). Seq K W (‵ (R .own r (v ∷ [])) ∷ Had 𝓤 H A P F ∷ Γ) (lands C Λ E d v rest q)) (sym tells) (k r e (subst (λ (v : Val). Is R r (v ∷ [])) tells is))))))
 
   -- the same where the result is x, and what it owns is not needed
-  pub answers : K → FmC 𝓤 H (W .laws) C → (T : Ended) (c : Clauses 𝓤 T) → Knows 𝓤 H A T c C f → (y : Entry 𝓤 H A T c) → Asked 𝓤 H A T c y P F → (R : Known 𝓤 H A (Result 𝓤 H A T c y)) (x : Result 𝓤 H A T c y .Denot) → Ensures 𝓤 H A T c y (λ r. r ≡ x)
-      → Opds K W (Had 𝓤 H A P F ∷ Γ) E xs (passed 𝓤 H A (T .signature) (y .0)) → (Is (Result 𝓤 H A T c y) x (only (R .vals x) ∷ []) → Seq K W (Had 𝓤 H A P F ∷ Γ) (lands C Λ E d (only (R .vals x)) rest q))
+  pub answers : K → FmC 𝓤 H (W .laws) C → (T : Ended) (c : Clauses 𝓤 T) → Knows 𝓤 H A T c C f → (y : Binding 𝓤 H A T c) → Asked 𝓤 H A T c y P F → (R : Walkable 𝓤 H A (ResultOf 𝓤 H A T c y)) (x : ResultOf 𝓤 H A T c y .Denot) → Ensures 𝓤 H A T c y (λ r. r ≡ x)
+      → Opds K W (Had 𝓤 H A P F ∷ Γ) E xs (passed 𝓤 H A (T .signature) (y .0)) → (Is (ResultOf 𝓤 H A T c y) x (only (R .vals x) ∷ []) → Seq K W (Had 𝓤 H A P F ∷ Γ) (lands C Λ E d (only (R .vals x)) rest q))
       → Seq K W (Had 𝓤 H A P F ∷ Γ) (runs C Λ E (seq (call f xs d) rest) q)
   answers t fm T c knows y asked known x said os k =
-      let R = Result 𝓤 H A T c y in
+      let R = ResultOf 𝓤 H A T c y in
       asks t fm T c knows y asked known (λ r. r ≡ x) said os (λ r e is. drop t $
       subst (λ (z : R .Denot). Seq K W (Had 𝓤 H A P F ∷ Γ) (lands C Λ E d (only (known .vals z)) rest q)) (sym e) (k (subst (λ (z : R .Denot). Is R z (only (known .vals z) ∷ [])) e is)))
 

@@ -9,7 +9,7 @@ use lib.ListN.{length}
 use Rattle.siv.specs.declared.Refusal.{Refusal}
 use Rattle.siv.specs.declared.Refusal.the-variants.{KeyLength, HeaderCount, HeaderLengths, TooLong, SealedLength, OutputShort, ScratchShort, Forged, State, EmptyNonce}
 use Rattle.siv.specs.declared.Answer.{Answer}
-use Rattle.siv.specs.Answer.{Outcome, numberOf, outcomeOf, verdict}
+use Rattle.siv.specs.Answer.{Outcome, numberOf, outcomeOf, withoutLength}
 use Rattle.siv.specs.Calls.{CallResult, DidCall}
 use Rattle.kinphlor.specs.Interface.{packed, emptyNonce, fromC, DidPacked}
 
@@ -27,7 +27,7 @@ number-most State = omega arith
 number-most EmptyNonce = omega arith
 
 module _ (nonce : ℕ) (key output scratch : List ℕ) (call : CallResult) where
-  pub nonce-refused : {r : ℕ} → emptyNonce (length key) nonce ≡ true → r ≡ packed (verdict 10) → DidPacked (fromC nonce key output scratch call) r output scratch
+  pub nonce-refused : {r : ℕ} → emptyNonce (length key) nonce ≡ true → r ≡ packed (withoutLength 10) → DidPacked (fromC nonce key output scratch call) r output scratch
   unfolding fromC
   nonce-refused e p = record { answer = simp e p; output = simp e; scratch = simp e }
 

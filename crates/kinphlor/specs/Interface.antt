@@ -7,7 +7,7 @@ use Prim.Native.Nat.{ℕ, _+_, _*_}
 use lib.Dec.{eqb}
 use lib.ListN.{length}
 use denote.Ref.{now}
-use Rattle.siv.specs.Answer.{Outcome, verdict}
+use Rattle.siv.specs.Answer.{Outcome, withoutLength}
 use Rattle.siv.specs.Calls.{isKeyLength, CallResult, sealCall, openCall, Lent}
 
 -- the header list: associated data, then nonce
@@ -25,7 +25,7 @@ emptyNonce keyLength nonce = isKeyLength keyLength && eqb nonce 0
 -- what the interface does: that refusal, with all lent memory untouched, or the call
 unfoldable pub fromC : ℕ → List ℕ → List ℕ → List ℕ → CallResult → CallResult
 fromC nonce key output scratch call =
-    cond (emptyNonce (length key) nonce) (record { outcome = verdict 10; output = output; scratch = scratch }) call
+    cond (emptyNonce (length key) nonce) (record { outcome = withoutLength 10; output = output; scratch = scratch }) call
 
 -- sealing and opening from C
 abbrev pub sealFromC : List ℕ → List ℕ → ℕ → ℕ → List ℕ → List ℕ → List ℕ → CallResult
@@ -45,4 +45,5 @@ pub record DidPacked (result : CallResult) (given : ℕ) (lastOutput lastScratch
 -- what a call of the interface promises: with what the lent slices held at entry, its number and what output and scratch hold at exit are the definition's
 abbrev pub PerformsFromC : (List ℕ → List ℕ → ℕ → ℕ → List ℕ → List ℕ → List ℕ → CallResult) → Lent → Lent → ℕ → ℕ → Lent → Lent → Lent → ℕ → Type 0
 PerformsFromC call key header ad nonce input output scratch given =
-    DidPacked (call (now (key .entry)) (now (header .entry)) ad nonce (now (input .entry)) (now (output .entry)) (now (scratch .entry))) given (now (output .exit)) (now (scratch .exit))
+    DidPacked (call (now (key .entry)) (now (header .entry)) ad nonce (now (input .entry)) (now (output .entry)) (now (scratch .entry))) given
+    (now (output .exit)) (now (scratch .exit))

@@ -11,7 +11,7 @@ use borrow.Author.Tests.{lt-ltb, le-ltb}
 use Rattle.octets.specs.Octets.{xors, put, part}
 use Rattle.octets.proofs.Strings.{length-xors, length-put, take-put}
 use Rattle.cmac.specs.declared.Subkeys.{Subkeys}
-use Rattle.cmac.specs.Cmac.{zeros, double, chain, cmacFrom}
+use Rattle.cmac.specs.Cmac.{zeros, double, chain, cmacFrom, cmac}
 use Rattle.cmac.proofs.Laws.{chain-front, cmac-split}
 use Rattle.header.specs.Header.{total, strings}
 use Rattle.header.proofs.Laws.{strings-more}
@@ -96,7 +96,7 @@ module _ (E : List ℕ → List ℕ) (k : Subkeys) (d : List ℕ) where
       long : 16 ≤ length p → tag E k d p ≡ tagFrom E k d (chain E zeros p (at / 16)) (drop at p)
       long h =
           let t : Tail (length p) = tail (length p) in
-          let held : tailLength (length p) ≡ 16 + length p % 16 = tail-long (length p) h in
+          let tailed : tailLength (length p) ≡ 16 + length p % 16 = tail-long (length p) h in
           let front : length (take at p) ≡ 16 * (at / 16) = length-take-le at p (omega arith) ∙ omega arith in
           let joined : take at p ++ drop at p ≡ p = take-append-drop at p in
           ap (tag E k d) (sym joined)
@@ -106,7 +106,7 @@ module _ (E : List ℕ → List ℕ) (k : Subkeys) (d : List ℕ) where
 
       go : Dec (length p < 16) → tag E k d p ≡ tagFrom E k d (chain E zeros p (at / 16)) (drop at p)
       go (yes h) =
-          let held : tailLength (length p) ≡ length p = tail-short (length p) h in
+          let tailed : tailLength (length p) ≡ length p = tail-short (length p) h in
           let front : 0 ≡ at = omega arith in
           ap (λ (n : ℕ). tagFrom E k d (chain E zeros p (n / 16)) (drop n p)) front
       go (no h) = long (omega arith)
@@ -125,7 +125,7 @@ module _ (E : List ℕ → List ℕ) (k : Subkeys) (d bytes lens : List ℕ) whe
   absorbed i = absorbStrings E k d (strings bytes (take i lens))
 
   -- with string i
-  pub absorbed-more : (i : ℕ) → i < length lens → xors (double (absorbed i)) (cmacFrom E k zeros (part bytes (total (take i lens)) (getD lens i 0))) ≡ absorbed (i + 1)
+  pub absorbed-more : (i : ℕ) → i < length lens → xors (double (absorbed i)) (cmac E k (part bytes (total (take i lens)) (getD lens i 0))) ≡ absorbed (i + 1)
   unfolding absorbStrings
   absorbed-more i h =
       sym (absorb-append E k d (strings bytes (take i lens)) (part bytes (total (take i lens)) (getD lens i 0) ∷ []))

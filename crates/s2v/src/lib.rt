@@ -5,7 +5,7 @@ ghost use lib.ListN.{length};
 ghost use Rattle.aes.specs.Cipher.{cipher};
 ghost use Rattle.aes.specs.Engine.{Ready};
 ghost use Rattle.octets.specs.Octets.{xors};
-ghost use Rattle.cmac.specs.Cmac.{cmacFrom, zeros, double, pad};
+ghost use Rattle.cmac.specs.Cmac.{cmacFrom, cmac, double, pad};
 ghost use Rattle.header.specs.Header.{total, strings};
 ghost use Rattle.s2v.specs.S2v.{absorbStrings, headerResult, xorend, tailLength, tagFrom, tag};
 use aes::Engine;
@@ -23,7 +23,7 @@ fn absorb_string(
     s: &[u8],
 ) -> Block
     requires { ⌜ Ready (now engine) × (width ≤ 32) ⌝ }
-    ensures { λ r. ⌜ r ≡ xors (double d) (cmacFrom (cipher width (now (keys .entry))) k zeros (now (s .entry))) ⌝ }
+    ensures { λ r. ⌜ r ≡ xors (double d) (cmac (cipher width (now (keys .entry))) k (now (s .entry))) ⌝ }
 {
     octets::xor_block(
         cmac::double(d),

@@ -4,6 +4,7 @@ use mathlib.Core.Path.{_≡_, refl, ap, ap₂, sym, subst, _∙_}
 use mathlib.Core.Bool.{Bool, true, false, not, false≢true, cond, _&&_, _||_, and-eq-true-iff}
 use mathlib.Core.List.{List, [], _∷_, _++_}
 use Prim.Native.Nat.{ℕ, suc, _+_, _-_, _/_, _≤_}
+use native.Mathlib.Decide.{ℕ-discrete}
 use native.Mathlib.Omega.{arith}
 use lib.Dec.{eqb, ltb}
 use lib.ListN.{length, take, drop, replicate, length-drop, length-replicate}
@@ -22,8 +23,8 @@ use Rattle.siv.specs.declared.Answer.{Answer}
 use Rattle.siv.specs.declared.Answer.the-variants.{Ok, Refused}
 use Rattle.siv.specs.declared.Refusal.{Refusal}
 use Rattle.siv.specs.declared.Refusal.the-variants.{KeyLength, HeaderCount, HeaderLengths, TooLong, SealedLength, OutputShort, ScratchShort, Forged, State, EmptyNonce}
-use Rattle.siv.specs.Answer.{Outcome, Row, row, first, numberOf, outcomeOf, verdict}
-use Rattle.siv.specs.Calls.{isKeyLength, limit, scratchNeed, headerRows, openRows, DidCall, sealNumber, sealCall, openNumber, openCall}
+use Rattle.siv.specs.Answer.{Outcome, Row, row, first, numberOf, outcomeOf, withoutLength}
+use Rattle.siv.specs.Calls.{isKeyLength, limit, scratchNeed, headerRows, sealRows, openRows, Usable, DidCall, sealNumber, sealCall, openNumber, openCall}
 use Rattle.siv.specs.Siv.{streamed, sealed, opened, genuine}
 use Rattle.siv.proofs.Answer.{the-type}
 
@@ -82,6 +83,14 @@ first-stop (r ∷ a) b e = go (r .due) (first-stop a b) e
     go true ih p = refl
     go false ih p = ih p
 
+-- where no row of both lists is due, none of either is
+pub first-none : (a b : List Row) → lacks 0 a ≡ true → first (a ++ b) ≡ 0 → (first a ≡ 0) × (first b ≡ 0)
+first-none a b l e = go (ℕ-discrete (first a) 0)
+  where
+    go : Dec (first a ≡ 0) → (first a ≡ 0) × (first b ≡ 0)
+    go (yes z) = (z, sym (first-pass a b l z) ∙ e)
+    go (no z) = absurd (z (sym (first-stop a b z) ∙ e))
+
 -- ---- which case an answer is
 
 -- no refusal has the number 0
@@ -102,22 +111,22 @@ pub told-refused : (a : Answer) → OneOf (1 ∷ []) (tagOf the-type a) → outc
 told-refused (Ok n) k e = let z : _≡_ {A = ℕ} 0 1 = k in omega arith
 told-refused (Refused r) k e = refusal-number r e
 
-pub told-done : (a : Answer) → OneOf (0 ∷ []) (tagOf the-type a) → outcomeOf a .number ≡ 0
-told-done (Ok n) k = refl
-told-done (Refused r) k = let z : _≡_ {A = ℕ} 1 0 = k in absurd (omega arith)
+pub told-ok : (a : Answer) → OneOf (0 ∷ []) (tagOf the-type a) → outcomeOf a .number ≡ 0
+told-ok (Ok n) k = refl
+told-ok (Refused r) k = let z : _≡_ {A = ℕ} 1 0 = k in absurd (omega arith)
 
 -- past a judgement none was due
-pub passed : (a : Answer) (n : ℕ) → OneOf (0 ∷ []) (tagOf the-type a) → outcomeOf a ≡ verdict n → n ≡ 0
-passed a n k e = sym (ap (λ (o : Outcome). o .number) e) ∙ told-done a k
+pub passed : (a : Answer) (n : ℕ) → OneOf (0 ∷ []) (tagOf the-type a) → outcomeOf a ≡ withoutLength n → n ≡ 0
+passed a n k e = sym (ap (λ (o : Outcome). o .number) e) ∙ told-ok a k
 
 -- a refusal stays due whatever rows come behind
-pub still-due : (a : Answer) (rows rest : List Row) → OneOf (1 ∷ []) (tagOf the-type a) → outcomeOf a ≡ verdict (first rows) → outcomeOf a ≡ verdict (first (rows ++ rest))
-still-due a rows rest k e = e ∙ ap verdict (sym (first-stop rows rest (λ z. told-refused a k (ap (λ (o : Outcome). o .number) e ∙ z))))
+pub still-due : (a : Answer) (rows rest : List Row) → OneOf (1 ∷ []) (tagOf the-type a) → outcomeOf a ≡ withoutLength (first rows) → outcomeOf a ≡ withoutLength (first (rows ++ rest))
+still-due a rows rest k e = e ∙ ap withoutLength (sym (first-stop rows rest (λ z. told-refused a k (ap (λ (o : Outcome). o .number) e ∙ z))))
 
 -- past a judgement the rows behind decide
-pub next-due : (a : Answer) (rows rest : List Row) → lacks 0 rows ≡ true → OneOf (0 ∷ []) (tagOf the-type a) → outcomeOf a ≡ verdict (first rows)
-    → verdict (first rest) ≡ verdict (first (rows ++ rest))
-next-due a rows rest l k e = ap verdict (sym (first-pass rows rest l (passed a (first rows) k e)))
+pub next-due : (a : Answer) (rows rest : List Row) → lacks 0 rows ≡ true → OneOf (0 ∷ []) (tagOf the-type a) → outcomeOf a ≡ withoutLength (first rows)
+    → withoutLength (first rest) ≡ withoutLength (first (rows ++ rest))
+next-due a rows rest l k e = ap withoutLength (sym (first-pass rows rest l (passed a (first rows) k e)))
 
 -- ---- keys under the cipher
 
@@ -128,6 +137,23 @@ aes-cipher key w k = ap₂ cipher w k
 
 -- ---- the whole calls
 
+pub not-due : (b : Bool) (n rest : ℕ) → cond b (suc n) rest ≡ 0 → (b ≡ false) × (rest ≡ 0)
+not-due true n rest e = absurd (omega arith)
+not-due false n rest e = (refl, e)
+
+-- what the refusals of key and header list leave
+pub header-admits : (keyLength : ℕ) (lens : List ℕ) (headerLength : ℕ) → first (headerRows keyLength lens headerLength) ≡ 0 → (isKeyLength keyLength ≡ true) × (total lens ≡ headerLength)
+header-admits keyLength lens headerLength e =
+    let a = not-due (not (isKeyLength keyLength)) 0 _ e in
+    let b = not-due (ltb 126 (length lens)) 1 _ (a .1) in
+    let d = not-due (not (eqb (total lens) headerLength)) 2 0 (b .1) in
+    (not-false (isKeyLength keyLength) (a .0), eqb-true (total lens) headerLength (not-false (eqb (total lens) headerLength) (d .0)))
+
+pub header-usable : (key bytes lens : List ℕ) → first (headerRows (length key) lens (length bytes)) ≡ 0 → Usable key bytes lens
+header-usable key bytes lens e =
+    let a = header-admits (length key) lens (length bytes) e in
+    (a .0, omega (arith, a .1))
+
 -- what sealing's refusals leave
 pub record SealAdmits (key bytes lens input output scratch : List ℕ) : Type 0 where
   pub keyed : isKeyLength (length key) ≡ true
@@ -136,29 +162,24 @@ pub record SealAdmits (key bytes lens input output scratch : List ℕ) : Type 0 
   pub roomy : length input + 16 ≤ length output
   pub scratchy : scratchNeed (length input) ≤ length scratch
 
-pub not-due : (b : Bool) (n rest : ℕ) → cond b (suc n) rest ≡ 0 → (b ≡ false) × (rest ≡ 0)
-not-due true n rest e = absurd (omega arith)
-not-due false n rest e = (refl, e)
-
 module _ (key bytes lens input output scratch : List ℕ) where
   pub seal-admits : sealNumber key bytes lens input output scratch ≡ 0 → SealAdmits key bytes lens input output scratch
   unfolding sealNumber
   seal-admits e =
-      let a = not-due (not (isKeyLength (length key))) 0 _ e in
-      let b = not-due (ltb 126 (length lens)) 1 _ (a .1) in
-      let d = not-due (not (eqb (total lens) (length bytes))) 2 _ (b .1) in
-      let f = not-due (ltb limit (length input)) 3 _ (d .1) in
+      let none = first-none (headerRows (length key) lens (length bytes)) (sealRows (length input) (length output) (length scratch)) refl e in
+      let a = header-admits (length key) lens (length bytes) (none .0) in
+      let f = not-due (ltb limit (length input)) 3 _ (none .1) in
       let g = not-due (ltb (length output) (length input + 16)) 5 _ (f .1) in
       let h = not-due (ltb (length scratch) (scratchNeed (length input))) 6 0 (g .1) in
       record {
-        keyed = not-false (isKeyLength (length key)) (a .0);
-        listed = eqb-true (total lens) (length bytes) (not-false (eqb (total lens) (length bytes)) (d .0));
+        keyed = a .0;
+        listed = a .1;
         limited = ltb-false limit (length input) (f .0);
         roomy = ltb-false (length output) (length input + 16) (g .0);
         scratchy = ltb-false (length scratch) (scratchNeed (length input)) (h .0);
       }
 
-  pub seal-refused : (answer : Answer) → (outcomeOf answer .number ≡ 0 → ⊥) → outcomeOf answer ≡ verdict (sealNumber key bytes lens input output scratch)
+  pub seal-refused : (answer : Answer) → (outcomeOf answer .number ≡ 0 → ⊥) → outcomeOf answer ≡ withoutLength (sealNumber key bytes lens input output scratch)
       → DidCall (sealCall key bytes lens input output scratch) answer output scratch
   unfolding sealCall
   seal-refused answer k e =
@@ -225,16 +246,15 @@ module _ (key bytes lens input output scratch : List ℕ) where
 
   pub open-admits : openJudged ≡ 0 → OpenAdmits key bytes lens input output scratch
   open-admits e =
-      let a = not-due (not (isKeyLength (length key))) 0 _ e in
-      let b = not-due (ltb 126 (length lens)) 1 _ (a .1) in
-      let d = not-due (not (eqb (total lens) (length bytes))) 2 _ (b .1) in
-      let f = not-due (ltb (length input) 16) 4 _ (d .1) in
+      let none = first-none (headerRows (length key) lens (length bytes)) (openRows (length input) (length output) (length scratch)) refl e in
+      let a = header-admits (length key) lens (length bytes) (none .0) in
+      let f = not-due (ltb (length input) 16) 4 _ (none .1) in
       let g = not-due (ltb (limit + 16) (length input)) 3 _ (f .1) in
       let h = not-due (ltb (length output) (length input - 16)) 5 _ (g .1) in
       let i = not-due (ltb (length scratch) (scratchNeed (length input - 16))) 6 0 (h .1) in
       record {
-        keyed = not-false (isKeyLength (length key)) (a .0);
-        listed = eqb-true (total lens) (length bytes) (not-false (eqb (total lens) (length bytes)) (d .0));
+        keyed = a .0;
+        listed = a .1;
         tagged = ltb-false (length input) 16 (f .0);
         limited = ltb-false (limit + 16) (length input) (g .0);
         roomy = ltb-false (length output) (length input - 16) (h .0);
@@ -261,14 +281,14 @@ module _ (key bytes lens input output scratch : List ℕ) where
   unfolding rows
   not-eight e = first-not 8 rows refl (λ q. omega arith) e
 
-  pub open-refused : (answer : Answer) → (outcomeOf answer .number ≡ 0 → ⊥) → outcomeOf answer ≡ verdict openJudged
+  pub open-refused : (answer : Answer) → (outcomeOf answer .number ≡ 0 → ⊥) → outcomeOf answer ≡ withoutLength openJudged
       → DidCall (openCall key bytes lens input output scratch) answer output scratch
   unfolding openCall number
   open-refused answer k e =
       let due : openJudged ≡ 0 → ⊥ = λ z. k (ap (λ (o : Outcome). o .number) e ∙ z) in
       let off : eqb number 0 ≡ false = ne-eqb number 0 (λ z. due (sym (stops due) ∙ z)) in
       let off8 : eqb number 8 ≡ false = ne-eqb number 8 (λ z. not-eight (sym (stops due) ∙ z)) in
-      record { outcome = simp off (e ∙ ap verdict (sym (stops due))); output = simp (off, off8); scratch = simp (off, off8) }
+      record { outcome = simp off (e ∙ ap withoutLength (sym (stops due))); output = simp (off, off8); scratch = simp (off, off8) }
 
   module _ (output′ scratch′ : List ℕ) (judged : openJudged ≡ 0) (wiped : scratch′ ≡ put scratch 0 (replicate (scratchNeed (length input - 16)) 0)) where
     pub open-done : genuine key (strings bytes lens) input ≡ true → output′ ≡ put output 0 (opened key input)

@@ -26,10 +26,17 @@ numberOf Forged = 8
 numberOf State = 9
 numberOf EmptyNonce = 10
 
+-- success with a length, and a number with length 0
+abbrev pub success : ℕ → Outcome
+success n = record { number = 0; count = n }
+
+abbrev pub withoutLength : ℕ → Outcome
+withoutLength n = record { number = n; count = 0 }
+
 -- every answer's number and length
 abbrev pub outcomeOf : Answer → Outcome
-outcomeOf (Ok n) = record { number = 0; count = n }
-outcomeOf (Refused r) = record { number = numberOf r; count = 0 }
+outcomeOf (Ok n) = success n
+outcomeOf (Refused r) = withoutLength (numberOf r)
 
 -- a refusal with the condition under which it is due
 pub record Row : Type 0 where
@@ -43,7 +50,3 @@ row n b = record { number = n; due = b }
 abbrev pub first : List Row → ℕ
 first [] = 0
 first (r ∷ rs) = cond (r .due) (r .number) (first rs)
-
--- a number with length 0
-abbrev pub verdict : ℕ → Outcome
-verdict n = record { number = n; count = 0 }

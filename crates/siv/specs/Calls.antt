@@ -40,9 +40,9 @@ abbrev pub openRows : ℕ → ℕ → ℕ → List Row
 openRows y output scratch =
     row 5 (ltb y 16) ∷ row 4 (ltb (limit + 16) y) ∷ row 6 (ltb output (y - 16)) ∷ row 7 (ltb scratch (scratchNeed (y - 16))) ∷ []
 
--- what the refusals of key and header list leave to work with
-abbrev pub Admitted : List ℕ → List ℕ → List ℕ → Type 0
-Admitted key bytes lens = (isKeyLength (length key) ≡ true) × (total lens ≤ length bytes)
+-- a key and a header list that the work can use: what the refusals leave is more
+abbrev pub Usable : List ℕ → List ℕ → List ℕ → Type 0
+Usable key bytes lens = (isKeyLength (length key) ≡ true) × (total lens ≤ length bytes)
 
 -- everything that a whole call does: number and length, and the last contents of output and scratch
 pub record CallResult : Type 0 where
@@ -57,9 +57,12 @@ pub record DidCall (result : CallResult) (answer : Answer) (lastOutput lastScrat
   pub scratch : lastScratch ≡ result .scratch
 
 module _ (key bytes lens input output scratch : List ℕ) where
-  -- the number that sealing returns
+  -- sealing's refusals, and the number that it returns
+  abbrev pub sealTable : List Row
+  sealTable = headerRows (length key) lens (length bytes) ++ sealRows (length input) (length output) (length scratch)
+
   unfoldable pub sealNumber : ℕ
-  sealNumber = first (headerRows (length key) lens (length bytes) ++ sealRows (length input) (length output) (length scratch))
+  sealNumber = first sealTable
 
   -- sealing: input is the plaintext
   unfoldable pub sealCall : CallResult
@@ -72,12 +75,14 @@ module _ (key bytes lens input output scratch : List ℕ) where
         scratch = cond done (put scratch 0 (replicate (scratchNeed n) 0)) scratch;
       }
 
-  -- the number that opening returns
+  -- opening's refusals, and the number that it returns
+  abbrev pub openTable : List Row
+  openTable =
+      headerRows (length key) lens (length bytes) ++ openRows (length input) (length output) (length scratch)
+      ++ (row 8 (not (genuine key (strings bytes lens) input)) ∷ [])
+
   unfoldable pub openNumber : ℕ
-  openNumber =
-      first
-      (headerRows (length key) lens (length bytes) ++ openRows (length input) (length output) (length scratch)
-      ++ (row 8 (not (genuine key (strings bytes lens) input)) ∷ []))
+  openNumber = first openTable
 
   -- opening: input is the sealed string
   unfoldable pub openCall : CallResult

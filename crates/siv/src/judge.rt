@@ -1,26 +1,29 @@
 // Which refusal is due, from lengths alone.
 ghost use mathlib.Core.Path.{_≡_};
 ghost use mathlib.Core.List.{_++_};
-ghost use Rattle.siv.specs.Answer.{outcomeOf, first, verdict};
+ghost use Rattle.siv.specs.Answer.{outcomeOf, first, withoutLength};
 ghost use Rattle.siv.specs.Calls.{scratchNeed, headerRows, sealRows, openRows};
 use crate::Answer;
 use crate::LIMIT;
 use crate::Refusal;
 use crate::TAG_LEN;
 
+// The least scratch.
+const SCRATCH_MIN: usize = 16;
+
 // The scratch that a plaintext of n bytes needs.
 pub(crate) fn scratch_need(n: usize) -> usize
     ensures { λ r. ⌜ r ≡ scratchNeed n ⌝ }
 {
-    if n < 16 {
-        return 16;
+    if n < SCRATCH_MIN {
+        return SCRATCH_MIN;
     }
     n
 }
 
 // The refusals of key and header list.
 pub fn judge_header(key_len: usize, lens: &[u32], header_len: usize) -> Answer
-    ensures { λ r. ⌜ outcomeOf r ≡ verdict (first (headerRows «key_len» (now (lens .entry)) «header_len»)) ⌝ }
+    ensures { λ r. ⌜ outcomeOf r ≡ withoutLength (first (headerRows «key_len» (now (lens .entry)) «header_len»)) ⌝ }
 {
     if !crate::is_key_len(key_len) {
         return Answer::Refused(Refusal::KeyLength);
@@ -36,7 +39,7 @@ pub fn judge_header(key_len: usize, lens: &[u32], header_len: usize) -> Answer
 
 // The refusals of a plaintext's length and of the buffers lent to seal it.
 fn judge_plaintext(n: usize, output: usize, scratch: usize) -> Answer
-    ensures { λ r. ⌜ outcomeOf r ≡ verdict (first (sealRows n output scratch)) ⌝ }
+    ensures { λ r. ⌜ outcomeOf r ≡ withoutLength (first (sealRows n output scratch)) ⌝ }
 {
     if LIMIT < n {
         return Answer::Refused(Refusal::TooLong);
@@ -59,7 +62,7 @@ pub(crate) fn judge_seal(
     output: usize,
     scratch: usize,
 ) -> Answer
-    ensures { λ r. ⌜ outcomeOf r ≡ verdict (first (headerRows «key_len» (now (lens .entry)) «header_len» ++ sealRows n output scratch)) ⌝ }
+    ensures { λ r. ⌜ outcomeOf r ≡ withoutLength (first (headerRows «key_len» (now (lens .entry)) «header_len» ++ sealRows n output scratch)) ⌝ }
 {
     let answer = judge_header(key_len, lens, header_len);
     if let Answer::Refused(_) = answer {
@@ -70,7 +73,7 @@ pub(crate) fn judge_seal(
 
 // The refusals of a sealed string's length and of the buffers lent to open it.
 fn judge_sealed(y: usize, output: usize, scratch: usize) -> Answer
-    ensures { λ r. ⌜ outcomeOf r ≡ verdict (first (openRows y output scratch)) ⌝ }
+    ensures { λ r. ⌜ outcomeOf r ≡ withoutLength (first (openRows y output scratch)) ⌝ }
 {
     if y < TAG_LEN {
         return Answer::Refused(Refusal::SealedLength);
@@ -96,7 +99,7 @@ pub(crate) fn judge_open(
     output: usize,
     scratch: usize,
 ) -> Answer
-    ensures { λ r. ⌜ outcomeOf r ≡ verdict (first (headerRows «key_len» (now (lens .entry)) «header_len» ++ openRows y output scratch)) ⌝ }
+    ensures { λ r. ⌜ outcomeOf r ≡ withoutLength (first (headerRows «key_len» (now (lens .entry)) «header_len» ++ openRows y output scratch)) ⌝ }
 {
     let answer = judge_header(key_len, lens, header_len);
     if let Answer::Refused(_) = answer {

@@ -8,7 +8,7 @@ ghost use Rattle.aes.specs.Cipher.{cipher};
 ghost use Rattle.aes.specs.Engine.{Ready};
 ghost use Rattle.header.specs.Header.{total, strings};
 ghost use Rattle.s2v.specs.S2v.{s2v};
-ghost use Rattle.siv.specs.Calls.{isKeyLength, Admitted};
+ghost use Rattle.siv.specs.Calls.{isKeyLength, Usable};
 ghost use Rattle.siv.specs.Siv.{tagOf, streamed, sealed, opened, genuine};
 use crate::TAG_LEN;
 use aes::Engine;
@@ -34,7 +34,7 @@ fn tag_under(
 
 // The tag of a header list and a plaintext.
 fn tag_of(engine: &Engine, key: &[u8], header: &[u8], lens: &[u32], p: &[u8]) -> Block
-    requires { ⌜ Ready (now engine) × Admitted (now key) (now header) (now lens) ⌝ }
+    requires { ⌜ Ready (now engine) × Usable (now key) (now header) (now lens) ⌝ }
     ensures { λ r. ⌜ r ≡ tagOf (now (key .entry)) (strings (now (header .entry)) (now (lens .entry))) (now (p .entry)) ⌝ }
 {
     let width = key.len() / 2;
@@ -60,7 +60,7 @@ pub(crate) fn seal_admitted(
     input: &[u8],
     output: &mut [u8],
 )
-    requires { ⌜ Admitted (now key) (now header) (now lens) × (16 + length (now input) ≤ length (now output)) ⌝ }
+    requires { ⌜ Usable (now key) (now header) (now lens) × (16 + length (now input) ≤ length (now output)) ⌝ }
     ensures { λ _. ⌜ now (output .exit) ≡ put (now (output .entry)) 0 (sealed (now (key .entry)) (strings (now (header .entry)) (now (lens .entry))) (now (input .entry))) ⌝ }
 {
     let engine = aes::engine();
@@ -77,7 +77,7 @@ pub(crate) fn open_admitted(
     sealed: &[u8],
     scratch: &mut [u8],
 ) -> bool
-    requires { ⌜ Admitted (now key) (now header) (now lens) × (16 ≤ length (now sealed)) × (length (now sealed) ≤ 16 + length (now scratch)) ⌝ }
+    requires { ⌜ Usable (now key) (now header) (now lens) × (16 ≤ length (now sealed)) × (length (now sealed) ≤ 16 + length (now scratch)) ⌝ }
     ensures judged { λ r. ⌜ r ≡ genuine (now (key .entry)) (strings (now (header .entry)) (now (lens .entry))) (now (sealed .entry)) ⌝ }
     ensures text { λ _. ⌜ now (scratch .exit) ≡ put (now (scratch .entry)) 0 (opened (now (key .entry)) (now (sealed .entry))) ⌝ }
 {

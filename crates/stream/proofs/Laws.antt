@@ -1,7 +1,7 @@
 -- Laws of joined strings, of what refusal 9 judges and of the calls' results.
 -- Assumes nothing.
 use mathlib.Core.Path.{_≡_, refl, ap, ap₂, sym, subst, _∙_}
-use mathlib.Core.Bool.{Bool, true, false, not, cond, _&&_, _||_, and-eq-true-iff}
+use mathlib.Core.Bool.{Bool, true, false, not, cond, _&&_, and-eq-true-iff}
 use mathlib.Core.List.{List, [], _∷_, _++_, append-assoc}
 use Prim.Native.Nat.{ℕ, suc, _+_, _-_, _*_, _/_, _%_, _≤_, _<_}
 use native.Mathlib.Numerals.{add-one}
@@ -14,6 +14,7 @@ use borrow.Author.Tests.{eqb-true, eq-eqb, ne-eqb, ltb-false, lt-ltb, le-ltb, no
 use Rattle.octets.specs.Octets.{put, part, same}
 use Rattle.octets.proofs.Strings.{part-to}
 use Rattle.aes.specs.Aes.{isWidth}
+use Rattle.aes.proofs.Widths.{width}
 use Rattle.aes.specs.Cipher.{cipher}
 use Rattle.aes.specs.KeyExpansion.{roundKeys}
 use Rattle.cmac.specs.declared.Subkeys.{Subkeys}
@@ -25,14 +26,14 @@ use Rattle.ctr.proofs.Laws.{length-xorStream}
 use Rattle.siv.specs.declared.Answer.{Answer}
 use Rattle.siv.specs.declared.Answer.the-variants.{Ok, Refused}
 use Rattle.siv.specs.declared.Refusal.the-variants.{Forged}
-use Rattle.siv.specs.Answer.{Outcome, Row, row, first, outcomeOf, verdict}
-use Rattle.siv.specs.Calls.{isKeyLength, limit, headerRows}
+use Rattle.siv.specs.Answer.{Outcome, Row, row, first, outcomeOf, withoutLength}
+use Rattle.siv.specs.Calls.{limit, headerRows}
 use Rattle.siv.specs.Siv.{macKey, ctrKey}
-use Rattle.siv.proofs.Laws.{not-due, first-not, first-pass, first-stop}
+use Rattle.siv.proofs.Laws.{not-due, first-none, first-not, first-pass, first-stop}
 use Rattle.stream.specs.declared.Step.{Step}
 use Rattle.stream.specs.declared.Stream.{Stream}
 use Rattle.stream.specs.State.{allZero, writtenLimit, fits, passedBlocks, tailOf, added, ended, start, tagOfState}
-use Rattle.stream.specs.Steps.{StepResult, DidStep, settle, openerRows, streamedAt, finishStep, addRows, turnRows, writeRows, feedRows, finishRows}
+use Rattle.stream.specs.Steps.{StepResult, DidStep, settle, tagRows, openerRows, streamedAt, finishStep, addRows, turnRows, writeRows, feedRows, finishRows, finishTable}
 
 -- ---- parts of two joined strings
 
@@ -78,15 +79,6 @@ sum-passes most total n h = go (decLt (most - total) n)
     go (yes k) = lt-ltb (most - total) n k ∙ sym (lt-ltb most (total + n) (omega arith))
     go (no k) = le-ltb (most - total) n (omega arith) ∙ sym (le-ltb most (total + n) (omega arith))
 
-width-most : (n : ℕ) → isWidth n ≡ true → n ≤ 32
-unfolding isWidth
-width-most n e = go (eqb n 16) (eqb n 24) (eqb-true n 16) (eqb-true n 24) (eqb-true n 32) e
-  where
-    go : (a b : Bool) → (a ≡ true → n ≡ 16) → (b ≡ true → n ≡ 24) → (eqb n 32 ≡ true → n ≡ 32) → (a || b || eqb n 32) ≡ true → n ≤ 32
-    go true b f g h t = let k : n ≡ 16 = f refl in omega arith
-    go false true f g h t = let k : n ≡ 24 = g refl in omega arith
-    go false false f g h t = let k : n ≡ 32 = h t in omega arith
-
 -- what a state that fits may be relied on for
 pub record Fit (wanted : ℕ) (s : Stream) : Type 0 where
   pub width : s .width ≤ 32
@@ -101,7 +93,7 @@ fit wanted s e =
     let d = and-eq-true-iff _ (not (ltb limit (s .total))) .0 (b .0) in
     let f = and-eq-true-iff (eqb (s .stage) wanted) (isWidth (s .width)) .0 (d .0) in
     record {
-      width = width-most (s .width) (f .1);
+      width = width (s .width) (f .1) .high;
       total = ltb-false limit (s .total) (not-true (ltb limit (s .total)) (d .1));
       written = ltb-false (writtenLimit wanted (s .total)) (s .written) (not-true (ltb (writtenLimit wanted (s .total)) (s .written)) (b .1));
     }
@@ -116,7 +108,7 @@ module _ (test : Bool) (a b : StepResult) {step : Step} {last : List ℕ} where
   picked-else : test ≡ false → DidStep b step last → DidStep (cond test a b) step last
   picked-else e d = subst (λ (t : Bool). DidStep (cond t a b) step last) (sym e) d
 
-pub refused : (a : Answer) (n : ℕ) (done : StepResult) (s : Stream) (output : List ℕ) → (outcomeOf a .number ≡ 0 → ⊥) → outcomeOf a ≡ verdict n
+pub refused : (a : Answer) (n : ℕ) (done : StepResult) (s : Stream) (output : List ℕ) → (outcomeOf a .number ≡ 0 → ⊥) → outcomeOf a ≡ withoutLength n
     → DidStep (settle n done s output) (record { answer = a; state = s }) output
 refused a n done s output k e =
     picked-else (eqb n 0) _ _ (ne-eqb n 0 (λ z. k (ap (λ (o : Outcome). o .number) e ∙ z))) (record { outcome = e; state = refl; output = refl })
@@ -283,16 +275,16 @@ module _ (s : Stream) (output : List ℕ) where
   forgery = row 8 (not (same (tagOfState s) (s .v))) ∷ []
 
   number : ℕ
-  number = first (finishRows s (length output) ++ (row 8 (not (same (tagOfState s) (s .v))) ∷ []))
+  number = first (finishTable s output)
 
-  pub finish-refused : (a : Answer) → (outcomeOf a .number ≡ 0 → ⊥) → outcomeOf a ≡ verdict (first (finishRows s (length output)))
+  pub finish-refused : (a : Answer) → (outcomeOf a .number ≡ 0 → ⊥) → outcomeOf a ≡ withoutLength (first (finishRows s (length output)))
       → DidStep (finishStep s output) (record { answer = a; state = s }) output
   unfolding finishStep judged forgery number
   finish-refused a k e =
       let due : first judged ≡ 0 → ⊥ = λ z. k (ap (λ (o : Outcome). o .number) e ∙ z) in
       let stops : number ≡ first judged = first-stop judged forgery due in
       let off8 : eqb number 8 ≡ false = ne-eqb number 8 (λ z. first-not 8 judged refl (λ z. omega arith) (sym stops ∙ z)) in
-      picked-else (eqb number 8) _ _ off8 (refused a number _ s output k (e ∙ ap verdict (sym stops)))
+      picked-else (eqb number 8) _ _ off8 (refused a number _ s output k (e ∙ ap withoutLength (sym stops)))
 
   module _ {state : Stream} (none : first (finishRows s (length output)) ≡ 0) (ends : state ≡ ended) where
     by-tag : number ≡ cond (not (same (tagOfState s) (s .v))) 8 0
@@ -314,29 +306,18 @@ module _ (s : Stream) (output : List ℕ) where
 
 -- ---- begin
 
-pub begin-refused : (a : Answer) (n : ℕ) (result : StepResult) {state : Stream} → (outcomeOf a .number ≡ 0 → ⊥) → outcomeOf a ≡ verdict n → state ≡ ended
+pub begin-refused : (a : Answer) (n : ℕ) (result : StepResult) {state : Stream} → (outcomeOf a .number ≡ 0 → ⊥) → outcomeOf a ≡ withoutLength n → state ≡ ended
     → DidStep (settle n result ended []) (record { answer = a; state = state }) []
 begin-refused a n result {state} k e ends =
     subst (λ (s : Stream). DidStep (settle n result ended []) (record { answer = a; state = s }) []) (sym ends) (refused a n result ended [] k e)
 
-module _ (keyLength : ℕ) (lens : List ℕ) (headerLength : ℕ) where
-  pub header-admits : first (headerRows keyLength lens headerLength) ≡ 0 → (isKeyLength keyLength ≡ true) × (total lens ≤ headerLength)
-  header-admits e =
-      let a = not-due (not (isKeyLength keyLength)) 0 _ e in
-      let b = not-due (ltb 126 (length lens)) 1 _ (a .1) in
-      let d = not-due (not (eqb (total lens) headerLength)) 2 0 (b .1) in
-      let all : total lens ≡ headerLength = eqb-true (total lens) headerLength (not-false (eqb (total lens) headerLength) (d .0)) in
-      (not-false (isKeyLength keyLength) (a .0), omega arith)
-
-  pub opener-admits : (tagLength : ℕ) → first (openerRows keyLength lens headerLength tagLength) ≡ 0
-      → ((isKeyLength keyLength ≡ true) × (total lens ≤ headerLength)) × (tagLength ≡ 16)
-  opener-admits tagLength e =
-      let a = not-due (not (isKeyLength keyLength)) 0 _ e in
-      let b = not-due (ltb 126 (length lens)) 1 _ (a .1) in
-      let d = not-due (not (eqb (total lens) headerLength)) 2 _ (b .1) in
-      let f = not-due (not (eqb tagLength 16)) 4 0 (d .1) in
-      let all : total lens ≡ headerLength = eqb-true (total lens) headerLength (not-false (eqb (total lens) headerLength) (d .0)) in
-      ((not-false (isKeyLength keyLength) (a .0), omega arith), eqb-true tagLength 16 (not-false (eqb tagLength 16) (f .0)))
+-- what the refusals of the opener's begin leave
+pub opener-admits : (keyLength : ℕ) (lens : List ℕ) (headerLength tagLength : ℕ) → first (openerRows keyLength lens headerLength tagLength) ≡ 0
+    → (first (headerRows keyLength lens headerLength) ≡ 0) × (tagLength ≡ 16)
+opener-admits keyLength lens headerLength tagLength e =
+    let none = first-none (headerRows keyLength lens headerLength) (tagRows tagLength) refl e in
+    let f = not-due (not (eqb tagLength 16)) 4 0 (none .1) in
+    (none .0, eqb-true tagLength 16 (not-false (eqb tagLength 16) (f .0)))
 
 -- a tag of 16 bytes is its own first 16
 pub whole-tag : (tag : List ℕ) → length tag ≡ 16 → part tag 0 16 ≡ tag

@@ -11,7 +11,7 @@ use Rattle.aes.specs.Cipher.{cipher}
 use Rattle.cmac.specs.Cmac.{zeros}
 use Rattle.header.specs.Header.{strings}
 use Rattle.ctr.specs.Counter.{xorStream}
-use Rattle.siv.specs.Answer.{Outcome, Row, row, first, outcomeOf, verdict}
+use Rattle.siv.specs.Answer.{Outcome, success, withoutLength, outcomeOf, Row, row, first}
 use Rattle.siv.specs.Calls.{limit, headerRows}
 use Rattle.stream.specs.declared.Step.{Step}
 use Rattle.stream.specs.declared.Stream.{Stream}
@@ -30,10 +30,10 @@ pub record DidStep (result : StepResult) (step : Step) (lastOutput : List ℕ) :
   pub output : lastOutput ≡ result .output
 
 abbrev pub doneStep : ℕ → Stream → List ℕ → StepResult
-doneStep n s output = record { outcome = record { number = 0; count = n }; state = s; output = output }
+doneStep n s output = record { outcome = success n; state = s; output = output }
 
 abbrev pub refusedStep : ℕ → Stream → List ℕ → StepResult
-refusedStep n s output = record { outcome = verdict n; state = s; output = output }
+refusedStep n s output = record { outcome = withoutLength n; state = s; output = output }
 
 -- the result of a call whose rows give a number: success, or the refusal with state and output as given
 abbrev pub settle : ℕ → StepResult → Stream → List ℕ → StepResult
@@ -146,8 +146,12 @@ feedStep s piece output =
 abbrev pub finishRows : Stream → ℕ → List Row
 finishRows s output = row 9 (not (fits 3 s)) ∷ row 6 (ltb output (s .total)) ∷ []
 
+-- all refusals of finish
+abbrev pub finishTable : Stream → List ℕ → List Row
+finishTable s output = finishRows s (length output) ++ (row 8 (not (same (tagOfState s) (s .v))) ∷ [])
+
 -- finish: the verdict; a forged string's plaintext is wiped, and the state is ended either way
 unfoldable pub finishStep : Stream → List ℕ → StepResult
 finishStep s output =
-    let number = first (finishRows s (length output) ++ (row 8 (not (same (tagOfState s) (s .v))) ∷ [])) in
+    let number = first (finishTable s output) in
     cond (eqb number 8) (refusedStep 8 ended (put output 0 (replicate (s .total) 0))) (settle number (doneStep (s .total) ended output) s output)

@@ -4,7 +4,7 @@ ghost use mathlib.Core.Bool.{not, _&&_};
 ghost use Prim.Native.Nat.{_+_, _≤_};
 ghost use lib.Dec.{ltb};
 ghost use lib.ListN.{drop};
-ghost use Rattle.siv.specs.Answer.{outcomeOf, first, verdict};
+ghost use Rattle.siv.specs.Answer.{outcomeOf, first, withoutLength};
 ghost use Rattle.stream.specs.State.{allZero, writtenLimit, fits};
 ghost use Rattle.stream.specs.Steps.{openerRows, addRows, turnRows, writeRows, feedRows, finishRows};
 use crate::Stream;
@@ -70,7 +70,7 @@ pub(crate) fn judge_opener(
     header_len: usize,
     tag_len: usize,
 ) -> Answer
-    ensures { λ r. ⌜ outcomeOf r ≡ verdict (first (openerRows «key_len» (now (lens .entry)) «header_len» «tag_len»)) ⌝ }
+    ensures { λ r. ⌜ outcomeOf r ≡ withoutLength (first (openerRows «key_len» (now (lens .entry)) «header_len» «tag_len»)) ⌝ }
 {
     let answer = siv::judge::judge_header(key_len, lens, header_len);
     if let Answer::Refused(_) = answer {
@@ -84,7 +84,7 @@ pub(crate) fn judge_opener(
 
 // The refusals of add.
 pub(crate) fn judge_add(s: Stream, n: usize) -> Answer
-    ensures { λ r. ⌜ outcomeOf r ≡ verdict (first (addRows s n)) ⌝ }
+    ensures { λ r. ⌜ outcomeOf r ≡ withoutLength (first (addRows s n)) ⌝ }
 {
     if !fits(1, s) {
         return Answer::Refused(Refusal::State);
@@ -97,7 +97,7 @@ pub(crate) fn judge_add(s: Stream, n: usize) -> Answer
 
 // The refusals of turn.
 pub(crate) fn judge_turn(s: Stream, output: usize) -> Answer
-    ensures { λ r. ⌜ outcomeOf r ≡ verdict (first (turnRows s output)) ⌝ }
+    ensures { λ r. ⌜ outcomeOf r ≡ withoutLength (first (turnRows s output)) ⌝ }
 {
     if !fits(1, s) {
         return Answer::Refused(Refusal::State);
@@ -110,7 +110,7 @@ pub(crate) fn judge_turn(s: Stream, output: usize) -> Answer
 
 // The refusals of write.
 pub(crate) fn judge_write(s: Stream, n: usize, output: usize) -> Answer
-    ensures { λ r. ⌜ outcomeOf r ≡ verdict (first (writeRows s n output)) ⌝ }
+    ensures { λ r. ⌜ outcomeOf r ≡ withoutLength (first (writeRows s n output)) ⌝ }
 {
     if !fits(2, s) {
         return Answer::Refused(Refusal::State);
@@ -139,7 +139,7 @@ pub(crate) fn closes(s: Stream) -> bool
 
 // The refusals of feed.
 pub(crate) fn judge_feed(s: Stream, n: usize, output: usize) -> Answer
-    ensures { λ r. ⌜ outcomeOf r ≡ verdict (first (feedRows s n output)) ⌝ }
+    ensures { λ r. ⌜ outcomeOf r ≡ withoutLength (first (feedRows s n output)) ⌝ }
 {
     if !fits(3, s) {
         return Answer::Refused(Refusal::State);
@@ -155,7 +155,7 @@ pub(crate) fn judge_feed(s: Stream, n: usize, output: usize) -> Answer
 
 // The refusals of finish but for a forged string.
 pub(crate) fn judge_finish(s: Stream, output: usize) -> Answer
-    ensures { λ r. ⌜ outcomeOf r ≡ verdict (first (finishRows s output)) ⌝ }
+    ensures { λ r. ⌜ outcomeOf r ≡ withoutLength (first (finishRows s output)) ⌝ }
 {
     if !fits(3, s) {
         return Answer::Refused(Refusal::State);

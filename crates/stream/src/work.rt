@@ -4,7 +4,7 @@ ghost use Prim.Native.Nat.{_+_, _≤_};
 ghost use lib.ListN.{length};
 ghost use Rattle.octets.specs.Octets.{put};
 ghost use Rattle.header.specs.Header.{total, strings};
-ghost use Rattle.siv.specs.Calls.{Admitted};
+ghost use Rattle.siv.specs.Calls.{Usable};
 ghost use Rattle.stream.specs.State.{ended, start, tagOfState};
 ghost use Rattle.stream.specs.Steps.{streamedAt};
 use crate::Stream;
@@ -31,7 +31,7 @@ pub(crate) fn ended() -> Stream
 
 // The state that a key and a header list begin with, in a stage and with a tag.
 pub(crate) fn start(key: &[u8], header: &[u8], lens: &[u32], stage: u8, v: Block) -> Stream
-    requires { ⌜ Admitted (now key) (now header) (now lens) ⌝ }
+    requires { ⌜ Usable (now key) (now header) (now lens) ⌝ }
     ensures { λ r. ⌜ r ≡ start (now (key .entry)) (strings (now (header .entry)) (now (lens .entry))) stage v ⌝ }
 {
     let engine = aes::engine();

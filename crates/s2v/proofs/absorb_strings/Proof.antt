@@ -44,13 +44,13 @@ use Rattle.octets.specs.Octets.{xors, part}
 use Rattle.aes.specs.Cipher.{cipher}
 use Rattle.aes.specs.Engine.{Ready}
 use Rattle.cmac.specs.declared.Subkeys.{Subkeys}
-use Rattle.cmac.specs.Cmac.{cmacFrom, zeros, double}
+use Rattle.cmac.specs.Cmac.{cmac, double}
 use Rattle.cmac.proofs.Subkeys as S
 use Rattle.cmac.proofs.Subkeys.Laws as S′
 use Rattle.header.specs.Header.{total, strings}
 use Rattle.header.specs.declared.reader.Reader.{Reader}
 use Rattle.header.proofs.Laws.{total-take, total-more, total-next}
-use Rattle.header.proofs.Walk.{Places, env, locals, Twice, own-at, both-twice, made, number, lent, Known, Params, a-number, a-ref, a-slice, an-array, a-struct, begins, copied, tested, inside, sets, lands-in, lands-over, puts, takes, freed, Knows, asks, answers, Entry, enters, Owned, Start, End, Walked, param, owned-twice, ends, closed}
+use Rattle.header.proofs.Walk.{Places, env, locals, Twice, own-at, both-twice, made, number, lent, Walkable, Params, a-number, a-ref, a-slice, an-array, a-struct, begins, copied, tested, inside, sets, lands-in, lands-over, puts, takes, freed, Knows, asks, answers, Binding, enters, Owned, Start, End, Walked, param, owned-twice, ends, closed}
 use Rattle.header.proofs.Readers.{ReaderT, Bytes, a-reader, bytes-reader}
 use Rattle.header.proofs.reader.Reader.Laws as T′
 use Rattle.header.proofs.reader.new as new
@@ -91,7 +91,7 @@ module _ {M : Type 1} (𝓤 : URA M) (H : Heap 𝓤) (A : Atoms 𝓤) (W : Given
       (κ₀ κ₁ κ₂ κ₃ : Lft) (q₀ q₁ q₂ q₃ : Share) (engine : RefT (List ℕ)) (width : ℕ) (keys : RefT (List ℕ)) (k : Subkeys) (d : List ℕ) (bytes lens : RefT (List ℕ))
       (asked : Ready (now engine) × (width ≤ 32) × (total (now lens) ≤ length (now bytes))) (bytes-fits : length (now bytes) < 2 ^ 64) (lens-fits : length (now lens) < 2 ^ 64) where
     -- what the function is called with, what its parameters own, and what parameter n owns, also where F is owned before
-    abbrev y : Entry 𝓤 H A strings-of.ended c
+    abbrev y : Binding 𝓤 H A strings-of.ended c
     y = enters 𝓤 H A strings-of.ended c (κ₀, (κ₁, (κ₂, (κ₃, tt)))) (params (κ₀, (κ₁, (κ₂, (κ₃, tt))))) (q₀, (q₁, (q₂, (q₃, tt)))) tt (engine, (width, (keys, (k, (d, (bytes, (lens, tt))))))) tt
 
     abbrev Own : Fml
@@ -115,12 +115,12 @@ module _ {M : Type 1} (𝓤 : URA M) (H : Heap 𝓤) (A : Atoms 𝓤) (W : Given
     fm : FmC 𝓤 H (W .laws) (𝓣 .C)
     fm = fmOf 𝓤 H (W .laws) 𝓣
 
-    -- ---- what the loop carries beside the reader, D. What else is to be carried changes these: its type, what a walk knows of it, and that it is plain data;
-    -- what is carried after i turns, which is d at 0, and its machine value; what a turn makes of it, and what it is after the last
+    -- ---- what the loop carries beside the reader, D: its type, what a walk knows of it, and that it is plain data; what is carried after i turns, which is d at 0, and its
+    -- machine value; what a turn makes of it, and what it is after the last. Beyond these definitions, the code's own lines for it are its start in `walk` and the call of `absorb_string`
     abbrev Carried : RattleType
     Carried = Array u8 16
 
-    abbrev a-carried : Known 𝓤 H A Carried
+    abbrev a-carried : Walkable 𝓤 H A Carried
     a-carried = an-array W w8 16
 
     carried-plain : Makes 𝓤 H A Carried (Is Carried)
@@ -132,8 +132,8 @@ module _ {M : Type 1} (𝓤 : URA M) (H : Heap 𝓤) (A : Atoms 𝓤) (W : Given
     abbrev carried-val : ℕ → Val
     carried-val i = only (a-carried .vals (carried i))
 
-    carried-more : (i : ℕ) → i < length (now lens) → (s : RefT (List ℕ)) → now s ≡ part (now bytes) (total (take i (now lens))) (getD (now lens) i 0) → xors (double (carried i)) (cmacFrom (cipher width (now keys)) k zeros (now s)) ≡ carried (i + 1)
-    carried-more i less s is-part = ap (λ (l : List ℕ). xors (double (carried i)) (cmacFrom (cipher width (now keys)) k zeros l)) is-part ∙ absorbed-more (cipher width (now keys)) k d (now bytes) (now lens) i less
+    carried-more : (i : ℕ) → i < length (now lens) → (s : RefT (List ℕ)) → now s ≡ part (now bytes) (total (take i (now lens))) (getD (now lens) i 0) → xors (double (carried i)) (cmac (cipher width (now keys)) k (now s)) ≡ carried (i + 1)
+    carried-more i less s is-part = ap (λ (l : List ℕ). xors (double (carried i)) (cmac (cipher width (now keys)) k l)) is-part ∙ absorbed-more (cipher width (now keys)) k d (now bytes) (now lens) i less
 
     carried-all : (i : ℕ) → length (now lens) ≤ i → carried i ≡ absorbStrings (cipher width (now keys)) k d (strings (now bytes) (now lens))
     carried-all i all = absorbed-all (cipher width (now keys)) k d (now bytes) (now lens) i all
@@ -155,7 +155,7 @@ module _ {M : Type 1} (𝓤 : URA M) (H : Heap 𝓤) (A : Atoms 𝓤) (W : Given
     own-reader i = via 𝓤 _ (own 5) (bytes-reader W κ₂ (reader i) (place-fits i))
 
     -- what `next` and `moved` are passed in turn i, and ask
-    abbrev to-next : ℕ → Entry 𝓤 H A next.ended (next.clauses 𝓤 H A mem run)
+    abbrev to-next : ℕ → Binding 𝓤 H A next.ended (next.clauses 𝓤 H A mem run)
     to-next i = (((κ₂, tt), (q₂, tt), tt, (reader i, (getD (now lens) i 0, tt)), (reader-val i ∷ [], (vint w64 (getD (now lens) i 0) ∷ [], tt))), tt)
 
     within : (i : ℕ) → i < length (now lens) → total (take i (now lens)) + getD (now lens) i 0 ≤ length (now bytes)

@@ -6,7 +6,7 @@ use lib.ListN.{length-take}
 use borrow.Author.Needs.{needs}
 use Rattle.octets.specs.Octets.{put}
 use Rattle.siv.specs.Answer.{Outcome}
-use Rattle.siv.proofs.Laws.{told-refused, told-done, openJudged, OpenAdmits, open-admits, open-refused, open-done, open-forged, text-read, scratch-wiped}
+use Rattle.siv.proofs.Laws.{told-refused, told-ok, openJudged, OpenAdmits, open-admits, open-refused, open-done, open-forged, text-read, scratch-wiped}
 use Rattle.siv.proofs.open.Statement.{statement}
 use Rattle.siv.proofs.open.Tie as tie
 
@@ -14,7 +14,7 @@ use Rattle.siv.proofs.open.Tie as tie
 passed : (c : tie.At-match-keys2)
     → let a = c .before .before .before .before .before .before .before .before .args in
     openJudged (a .key .now) (a .header .now) (a .lens .now) (a .input .now) (a .output .now) (a .scratch .now) ≡ 0
-passed c = sym (ap (λ (o : Outcome). o .number) (c .before .judge-open .ensures)) ∙ told-done (c .before .judge-open .result) (c .match .keys2)
+passed c = sym (ap (λ (o : Outcome). o .number) (c .before .judge-open .ensures)) ∙ told-ok (c .before .judge-open .result) (c .match .keys2)
 
 admits : (c : tie.At-match-keys2)
     → let a = c .before .before .before .before .before .before .before .before .args in

@@ -8,7 +8,7 @@ use borrow.Author.Needs.{needs}
 use Rattle.octets.specs.Octets.{put}
 use Rattle.siv.specs.Answer.{Outcome}
 use Rattle.siv.specs.Calls.{sealNumber}
-use Rattle.siv.proofs.Laws.{told-refused, told-done, SealAdmits, seal-admits, seal-refused, seal-done}
+use Rattle.siv.proofs.Laws.{told-refused, told-ok, SealAdmits, seal-admits, seal-refused, seal-done}
 use Rattle.siv.proofs.seal.Statement.{statement}
 use Rattle.siv.proofs.seal.Tie as tie
 
@@ -17,7 +17,7 @@ admitted : (c : tie.At-match-keys2)
     → let a = c .before .before .before .before .before .before .before .before .args in
     sealNumber (a .key .now) (a .header .now) (a .lens .now) (a .input .now) (a .output .now) (a .scratch .now) ≡ 0
 unfolding sealNumber
-admitted c = sym (ap (λ (o : Outcome). o .number) (c .before .judge-seal .ensures)) ∙ told-done (c .before .judge-seal .result) (c .match .keys2)
+admitted c = sym (ap (λ (o : Outcome). o .number) (c .before .judge-seal .ensures)) ∙ told-ok (c .before .judge-seal .result) (c .match .keys2)
 
 admits : (c : tie.At-match-keys2)
     → let a = c .before .before .before .before .before .before .before .before .args in

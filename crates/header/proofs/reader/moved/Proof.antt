@@ -23,7 +23,7 @@ use denote.Ref.{now}
 use denote.Triple.Clauses.{Clauses}
 use denote.Triple.Entry.{Args}
 use Rattle.header.specs.declared.reader.Reader.{Reader}
-use Rattle.header.proofs.Walk.{Params, a-number, begins, copied, inside, sets, freed, Entry, enters, Start, Walked, param, ends, closed}
+use Rattle.header.proofs.Walk.{Params, a-number, begins, copied, inside, sets, freed, Binding, enters, Start, Walked, param, ends, closed}
 use Rattle.header.proofs.Readers.{a-reader, reader-bytes, bytes-reader}
 use Rattle.header.proofs.reader.moved.Key.{name as #header·reader·moved}
 use Rattle.header.proofs.reader.moved as moved
@@ -42,7 +42,7 @@ module _ {M : Type 1} (𝓤 : URA M) (H : Heap 𝓤) (A : Atoms 𝓤) (W : Given
   params = (a-reader W (κs .0), (a-number W w64, tt))
 
   module _ (C : Calls 𝓤 H) (Λ : Loops 𝓤 H) (qs : Shares 1) (a : Args moved.signature κs) (within : a .0 .at + a .1 .0 ≤ length (now (a .0 .bytes))) where
-    abbrev y : Entry 𝓤 H A moved.ended c
+    abbrev y : Binding 𝓤 H A moved.ended c
     y = enters 𝓤 H A moved.ended c κs params qs tt a tt
 
     abbrev further : Reader

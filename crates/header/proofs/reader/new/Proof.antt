@@ -20,7 +20,7 @@ use denote.Builtin.{u8}
 use denote.Triple.Clauses.{Clauses}
 use denote.Triple.Entry.{Args}
 use Rattle.header.specs.declared.reader.Reader.{Reader}
-use Rattle.header.proofs.Walk.{Params, a-number, a-slice, begins, copied, sets, freed, Entry, enters, Start, Walked, param, ends, closed}
+use Rattle.header.proofs.Walk.{Params, a-number, a-slice, begins, copied, sets, freed, Binding, enters, Start, Walked, param, ends, closed}
 use Rattle.header.proofs.Readers.{bytes-reader}
 use Rattle.header.proofs.reader.new.Key.{name as #header·reader·new}
 use Rattle.header.proofs.reader.new as new
@@ -35,7 +35,7 @@ module _ {M : Type 1} (𝓤 : URA M) (H : Heap 𝓤) (A : Atoms 𝓤) (W : Given
   params = (a-slice W (named 0) (κs .0) u8, (a-number W w64, tt))
 
   module _ (C : Calls 𝓤 H) (Λ : Loops 𝓤 H) (qs : Shares 1) (a : Args new.signature κs) where
-    abbrev y : Entry 𝓤 H A new.ended c
+    abbrev y : Binding 𝓤 H A new.ended c
     y = enters 𝓤 H A new.ended c κs params qs tt a tt
 
     abbrev made : Reader

@@ -28,7 +28,7 @@ use denote.Triple.Clauses.{Clauses}
 use denote.Triple.Entry.{Args}
 use denote.Triple.Table.{cited}
 use Rattle.octets.specs.Octets.{part}
-use Rattle.header.proofs.Walk.{Params, a-number, a-slice, number, lent, begins, copied, inside, sets, lands-in, puts, freed, Knows, asks, Entry, enters, Start, Owned, Walked, param, owned-twice, ends, closed}
+use Rattle.header.proofs.Walk.{Params, a-number, a-slice, number, lent, begins, copied, inside, sets, lands-in, puts, freed, Knows, asks, Binding, enters, Start, Owned, Walked, param, owned-twice, ends, closed}
 use Rattle.header.proofs.Readers.{Bytes, a-reader, reader-bytes}
 use Rattle.header.proofs.reader.string_at as string
 use Rattle.header.proofs.reader.string_at.Symbol as string-def
@@ -47,7 +47,7 @@ module _ {M : Type 1} (𝓤 : URA M) (H : Heap 𝓤) (A : Atoms 𝓤) (W : Given
 
   module _ (𝓣 : Tables 𝓤 H) (knows-string : Knows 𝓤 H A string.ended (string.clauses 𝓤 H A mem run) (𝓣 .C) string-def.name)
       (qs : Shares 1) (a : Args next.signature κs) (within : a .0 .at + a .1 .0 ≤ length (now (a .0 .bytes))) where
-    abbrev y : Entry 𝓤 H A next.ended c
+    abbrev y : Binding 𝓤 H A next.ended c
     y = enters 𝓤 H A next.ended c κs params qs tt a tt
 
     walk : Walked 𝓤 H A next.ended c (𝓣 .C) (𝓣 .Λ) code.function y

@@ -6,7 +6,7 @@ use lib.ListN.{length}
 use borrow.Author.Needs.{needs}
 use Rattle.header.specs.Header.{strings}
 use Rattle.siv.specs.Answer.{first}
-use Rattle.siv.proofs.Laws.{told-refused, passed}
+use Rattle.siv.proofs.Laws.{header-usable, told-refused, passed}
 use Rattle.stream.specs.State.{start}
 use Rattle.stream.specs.Steps.{openerRows, beginOpener}
 use Rattle.stream.proofs.Laws.{begin-refused, done, opener-admits, whole-tag}
@@ -42,7 +42,8 @@ load-requires c κs =
 start-requires : tie.Need-start-requires
 start-requires c κs =
     let args = c .before .before .before .before .before .before .before .before .args in
-    opener-admits (length (args .key .now)) (args .lens .now) (length (args .header .now)) (length (args .tag .now)) (none (c .before .before)) .0
+    header-usable (args .key .now) (args .header .now) (args .lens .now)
+    (opener-admits (length (args .key .now)) (args .lens .now) (length (args .header .now)) (length (args .tag .now)) (none (c .before .before)) .0)
 
 returns-2 : tie.Need-returns-2
 unfolding beginOpener

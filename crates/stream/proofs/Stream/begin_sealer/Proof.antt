@@ -5,9 +5,9 @@ use lib.ListN.{length}
 use borrow.Author.Needs.{needs}
 use Rattle.siv.specs.Answer.{first}
 use Rattle.siv.specs.Calls.{headerRows}
-use Rattle.siv.proofs.Laws.{told-refused, passed}
+use Rattle.siv.proofs.Laws.{header-usable, told-refused, passed}
 use Rattle.stream.specs.Steps.{beginSealer}
-use Rattle.stream.proofs.Laws.{begin-refused, done, header-admits}
+use Rattle.stream.proofs.Laws.{begin-refused, done}
 use Rattle.stream.proofs.Stream.begin_sealer.Statement.{statement}
 use Rattle.stream.proofs.Stream.begin_sealer.Tie as tie
 
@@ -33,7 +33,9 @@ enum-told-2 : tie.Need-enum-told-2
 enum-told-2 c = search needs
 
 start-requires : tie.Need-start-requires
-start-requires c κs = header-admits _ _ _ (none (c .before))
+start-requires c κs =
+    let args = c .before .before .before .before .before .before .args in
+    header-usable (args .key .now) (args .header .now) (args .lens .now) (none (c .before))
 
 returns-2 : tie.Need-returns-2
 unfolding beginSealer
