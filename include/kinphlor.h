@@ -22,8 +22,8 @@
  *
  *   success         the sealed record or the plaintext at the front of the output; zeros in the scratch bytes that were
  *                   needed
- *   8 (forged)      zeros in the first n bytes of the output, and in the scratch bytes that were needed. No byte of an
- *                   unapproved plaintext is ever in the output.
+ *   8 (forged)      zeros in the first n bytes of the output, and in the scratch bytes that were needed. The code
+ *                   opens into scratch, so that no byte of an unapproved plaintext is in the output even meanwhile.
  *   other refusals  output and scratch are untouched
  *
  * Bytes of output and scratch past these keep their values. Key, header and input are only read.

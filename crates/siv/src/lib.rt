@@ -66,7 +66,7 @@ pub fn seal(
     ensures { λ r. ⌜ Performs sealCall key header lens input output scratch r ⌝ }
 {
     let n = input.len();
-    let verdict = judge::judge_seal(
+    let answer = judge::judge_seal(
         key.len(),
         lens,
         header.len(),
@@ -74,8 +74,8 @@ pub fn seal(
         output.len(),
         scratch.len(),
     );
-    if let Answer::Refused(_) = verdict {
-        return verdict;
+    if let Answer::Refused(_) = answer {
+        return answer;
     }
     work::seal_admitted(key, header, lens, input, output);
     octets::zero_at(scratch, 0, judge::scratch_need(n));
@@ -94,7 +94,7 @@ pub fn open(
     ensures { λ r. ⌜ Performs openCall key header lens input output scratch r ⌝ }
 {
     let y = input.len();
-    let verdict = judge::judge_open(
+    let answer = judge::judge_open(
         key.len(),
         lens,
         header.len(),
@@ -102,8 +102,8 @@ pub fn open(
         output.len(),
         scratch.len(),
     );
-    if let Answer::Refused(_) = verdict {
-        return verdict;
+    if let Answer::Refused(_) = answer {
+        return answer;
     }
     let n = y - TAG_LEN;
     if work::open_admitted(key, header, lens, input, scratch) {

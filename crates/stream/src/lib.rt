@@ -55,10 +55,10 @@ impl Stream {
     pub fn begin_sealer(key: &[u8], header: &[u8], lens: &[u32]) -> Step
         ensures { λ r. ⌜ DidStep (beginSealer (now (key .entry)) (now (header .entry)) (now (lens .entry))) r [] ⌝ }
     {
-        let verdict = siv::judge::judge_header(key.len(), lens, header.len());
-        if let Answer::Refused(_) = verdict {
+        let answer = siv::judge::judge_header(key.len(), lens, header.len());
+        if let Answer::Refused(_) = answer {
             return Step {
-                answer: verdict,
+                answer,
                 state: work::ended(),
             };
         }
@@ -72,10 +72,10 @@ impl Stream {
     pub fn begin_opener(key: &[u8], header: &[u8], lens: &[u32], tag: &[u8]) -> Step
         ensures { λ r. ⌜ DidStep (beginOpener (now (key .entry)) (now (header .entry)) (now (lens .entry)) (now (tag .entry))) r [] ⌝ }
     {
-        let verdict = judge::judge_opener(key.len(), lens, header.len(), tag.len());
-        if let Answer::Refused(_) = verdict {
+        let answer = judge::judge_opener(key.len(), lens, header.len(), tag.len());
+        if let Answer::Refused(_) = answer {
             return Step {
-                answer: verdict,
+                answer,
                 state: work::ended(),
             };
         }
@@ -89,10 +89,10 @@ impl Stream {
     pub fn add(self, piece: &[u8]) -> Step
         ensures { λ r. ⌜ DidStep (addStep self (now (piece .entry))) r [] ⌝ }
     {
-        let verdict = judge::judge_add(self, piece.len());
-        if let Answer::Refused(_) = verdict {
+        let answer = judge::judge_add(self, piece.len());
+        if let Answer::Refused(_) = answer {
             return Step {
-                answer: verdict,
+                answer,
                 state: self,
             };
         }
@@ -106,10 +106,10 @@ impl Stream {
     pub fn turn(mut self, output: &mut [u8]) -> Step
         ensures { λ r. ⌜ DidStep (turnStep self (now (output .entry))) r (now (output .exit)) ⌝ }
     {
-        let verdict = judge::judge_turn(self, output.len());
-        if let Answer::Refused(_) = verdict {
+        let answer = judge::judge_turn(self, output.len());
+        if let Answer::Refused(_) = answer {
             return Step {
-                answer: verdict,
+                answer,
                 state: self,
             };
         }
@@ -128,10 +128,10 @@ impl Stream {
         ensures { λ r. ⌜ DidStep (writeStep self (now (piece .entry)) (now (output .entry))) r (now (output .exit)) ⌝ }
     {
         let n = piece.len();
-        let verdict = judge::judge_write(self, n, output.len());
-        if let Answer::Refused(_) = verdict {
+        let answer = judge::judge_write(self, n, output.len());
+        if let Answer::Refused(_) = answer {
             return Step {
-                answer: verdict,
+                answer,
                 state: self,
             };
         }
@@ -164,10 +164,10 @@ impl Stream {
         ensures { λ r. ⌜ DidStep (feedStep self (now (piece .entry)) (now (output .entry))) r (now (output .exit)) ⌝ }
     {
         let n = piece.len();
-        let verdict = judge::judge_feed(self, n, output.len());
-        if let Answer::Refused(_) = verdict {
+        let answer = judge::judge_feed(self, n, output.len());
+        if let Answer::Refused(_) = answer {
             return Step {
-                answer: verdict,
+                answer,
                 state: self,
             };
         }
@@ -183,10 +183,10 @@ impl Stream {
     pub fn finish(self, output: &mut [u8]) -> Step
         ensures { λ r. ⌜ DidStep (finishStep self (now (output .entry))) r (now (output .exit)) ⌝ }
     {
-        let verdict = judge::judge_finish(self, output.len());
-        if let Answer::Refused(_) = verdict {
+        let answer = judge::judge_finish(self, output.len());
+        if let Answer::Refused(_) = answer {
             return Step {
-                answer: verdict,
+                answer,
                 state: self,
             };
         }
