@@ -1,5 +1,5 @@
 // RFC 5297's appendix A, with every value that it prints on the way.
-ghost use Prim.Native.Nat.{_≤_, _<_};
+ghost use Prim.Native.Nat.{_+_, _≤_, _<_};
 ghost use lib.ListN.{length};
 ghost use Rattle.aes.specs.Engine.{Ready};
 use aes::Engine;
@@ -13,6 +13,13 @@ use rfc5297::A2_HEADER;
 use rfc5297::A2_KEY;
 use rfc5297::A2_LENS;
 use rfc5297::A2_PLAINTEXT;
+
+// The round keys of the half of a key that begins at a place.
+fn half_keys(engine: &Engine, key: &[u8], at: usize) -> RoundKeys
+    requires { ⌜ Ready (now engine) × (at + 16 ≤ length (now key)) ⌝ }
+{
+    aes::round_keys(engine, &key[at..at + 16])
+}
 
 // Prints the CMAC of the zero block.
 fn start(engine: &Engine, keys: &RoundKeys, k: Subkeys) -> Block
@@ -91,8 +98,7 @@ fn a1_header(engine: &Engine, keys: &RoundKeys, k: Subkeys) -> Block
 fn a1_tag(engine: &Engine) -> Block
     requires { ⌜ Ready (now engine) ⌝ }
 {
-    let e = aes::expand(engine, &A1_KEY[0..16]);
-    let keys = e.keys;
+    let keys = half_keys(engine, &A1_KEY, 0);
     let k = cmac::make_subkeys(cmac::zero_cipher(engine, 16, &keys));
     let d = a1_header(engine, &keys, k);
     short_end(d, &A1_PLAINTEXT);
@@ -106,8 +112,7 @@ fn a1(engine: &Engine)
 {
     printer::text(b"A.1\n");
     let v = a1_tag(engine);
-    let e = aes::expand(engine, &A1_KEY[16..32]);
-    let keys = e.keys;
+    let keys = half_keys(engine, &A1_KEY, 16);
     let q = ctr::clear(v);
     counter(engine, &keys, q, 0);
     ciphertext(engine, &keys, v, &A1_PLAINTEXT);
@@ -136,8 +141,7 @@ fn a2_tag(engine: &Engine, keys: &RoundKeys, k: Subkeys) -> Block
 fn a2_text(engine: &Engine, v: Block)
     requires { ⌜ Ready (now engine) ⌝ }
 {
-    let e = aes::expand(engine, &A2_KEY[16..32]);
-    let keys = e.keys;
+    let keys = half_keys(engine, &A2_KEY, 16);
     let q = ctr::clear(v);
     counter(engine, &keys, q, 0);
     counter(engine, &keys, q, 1);
@@ -149,8 +153,7 @@ fn a2(engine: &Engine)
     requires { ⌜ Ready (now engine) ⌝ }
 {
     printer::text(b"A.2\n");
-    let e = aes::expand(engine, &A2_KEY[0..16]);
-    let keys = e.keys;
+    let keys = half_keys(engine, &A2_KEY, 0);
     let k = cmac::make_subkeys(cmac::zero_cipher(engine, 16, &keys));
     let v = a2_tag(engine, &keys, k);
     a2_text(engine, v);
