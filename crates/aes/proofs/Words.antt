@@ -7,7 +7,8 @@ use native.Mathlib.Nat.{lt-of-le-of-lt, div-div-eq-div-mul, div-add-mod', mod-eq
 use native.Mathlib.Omega.{arith}
 use lib.Bits.{bitXor, bitAnd, xor-shr, xor-mod, and-shr, and-mod, and-le-l, xor-lt, xor-comm}
 use lib.ListN.{length}
-use Rattle.octets.proofs.Strings.{entries, entries-all}
+use Rattle.octets.specs.Octets.{entries}
+use Rattle.octets.proofs.Strings.{entries-all}
 use Rattle.aes.specs.declared.State.{State}
 use Rattle.field.specs.Field.{mul}
 use Rattle.aes.specs.State.{bytesOfWord, bytesOf, WordIs, StateIs, mixedByte, Mixed}

@@ -6,11 +6,11 @@ use Prim.Native.Nat.{ℕ, zero, suc, _+_, _*_, _/_, _%_, _^_, _≤_, _<_}
 use native.Mathlib.Nat.{zero-add, suc-add, add-assoc, add-comm, zero-mul, add-mul, mul-assoc, pow-suc, one-le-pow, mod-lt, div-div-eq-div-mul}
 use native.Mathlib.Omega.{arith}
 use lib.Arith.{digits-div, digits-mod, mod-mul}
-use lib.ListN.{length, take, drop, length-append, length-drop, take-append-drop}
+use lib.ListN.{length, take, drop, getD, length-append, length-drop, take-append-drop}
 use lib.Pow.{pow-add}
-use lib.Seq.{take-all}
-use Rattle.octets.specs.Octets.{part}
-use Rattle.octets.proofs.Strings.{entries, entries-all, length-part}
+use lib.Seq.{drop-cons, take-all}
+use Rattle.octets.specs.Octets.{part, entries}
+use Rattle.octets.proofs.Strings.{length-part}
 use Rattle.ctr.specs.Counter.{number, bytesOfNumber, plus}
 
 -- ---- powers of 256
@@ -68,17 +68,20 @@ number-append (x ∷ a) b =
     ap₂ (λ (p n : ℕ). x * p + n) (ap (λ (n : ℕ). 256 ^ n) (length-append a b) ∙ pow-add 256 (length a) (length b)) (number-append a b)
     ∙ omega (arith, mul-assoc x A B, add-mul (x * A) (number a) B)
 
--- a string of eight bytes is the list of them
-pub eight-entries : (s : List ℕ) → length s ≡ 8 → entries 8 0 s ≡ s
-eight-entries s h = ap (λ (n : ℕ). entries n 0 s) (sym h) ∙ entries-all s
+-- n bytes of a string from a place on are the list of them
+part-entries : (n at : ℕ) (l : List ℕ) → at + n ≤ length l → part l at n ≡ entries n at l
+part-entries zero at l h = refl
+part-entries (suc n) at l h =
+    ap (take (suc n)) (drop-cons l at 0 (omega arith)) ∙ ap (λ (t : List ℕ). getD l at 0 ∷ t) (part-entries n (suc at) l (omega arith))
 
 -- a string of 16 bytes by its halves
-number-halves : (q : List ℕ) → length q ≡ 16 → number q ≡ number (part q 0 8) * 2 ^ 64 + number (part q 8 8)
+number-halves : (q : List ℕ) → length q ≡ 16 → number q ≡ number (entries 8 0 q) * 2 ^ 64 + number (entries 8 8 q)
 number-halves q h =
     let rest : drop 8 q ≡ part q 8 8 = sym (take-all 8 (drop 8 q) (simp length-drop (omega arith))) in
     ap number (sym (take-append-drop 8 q) ∙ ap (λ (l : List ℕ). take 8 q ++ l) rest)
     ∙ number-append (take 8 q) (part q 8 8)
     ∙ ap (λ (n : ℕ). number (take 8 q) * 256 ^ n + number (part q 8 8)) (length-part q 8 8 (omega arith))
+    ∙ ap₂ (λ (a b : List ℕ). number a * 2 ^ 64 + number b) (part-entries 8 0 q (omega arith)) (part-entries 8 8 q (omega arith))
 
 -- ---- Q + i by halves, with `sum` the low half of the result
 
@@ -89,7 +92,7 @@ kept lo i sum hl hi e h = omega arith
 carried : (lo i sum : ℕ) → lo < 2 ^ 64 → i < 2 ^ 64 → sum ≡ (lo + i) % 2 ^ 64 → sum < lo → lo + i ≡ 2 ^ 64 + sum
 carried lo i sum hl hi e h = omega arith
 
-module _ (q : List ℕ) (long : length q ≡ 16) {hi lo i sum : ℕ} (high : hi ≡ number (part q 0 8)) (low : lo ≡ number (part q 8 8))
+module _ (q : List ℕ) (long : length q ≡ 16) {hi lo i sum : ℕ} (high : hi ≡ number (entries 8 0 q)) (low : lo ≡ number (entries 8 8 q))
     (lo-fits : lo < 2 ^ 64) (i-fits : i < 2 ^ 64) (e : sum ≡ (lo + i) % 2 ^ 64) where
   whole : number q + i ≡ hi * 2 ^ 64 + (lo + i)
   whole =

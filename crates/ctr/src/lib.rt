@@ -3,7 +3,7 @@ ghost use mathlib.Core.Path.{_≡_};
 ghost use Prim.Native.Nat.{_+_, _*_, _^_, _≤_};
 ghost use lib.ListN.{length, take};
 ghost use mathlib.Core.List.{[], _∷_, _++_};
-ghost use Rattle.octets.specs.Octets.{put};
+ghost use Rattle.octets.specs.Octets.{entries, put};
 ghost use Rattle.ctr.specs.Counter.{number, bytesOfNumber, clear, plus, xorStream};
 ghost use Rattle.aes.specs.Cipher.{cipher};
 ghost use Rattle.aes.specs.Engine.{Ready};
@@ -35,12 +35,18 @@ fn join(a: u8, b: u8, c: u8, d: u8, e: u8, f: u8, g: u8, h: u8) -> u64
         + h as u64
 }
 
-// The number of half a block.
-fn half(s: &[u8]) -> u64
-    requires { ⌜ length (now s) ≡ 8 ⌝ }
-    ensures { λ r. ⌜ r ≡ number (now (s .entry)) ⌝ }
+// The number of the first half of a block.
+fn high(q: Block) -> u64
+    ensures { λ r. ⌜ r ≡ number (entries 8 0 q) ⌝ }
 {
-    join(s[0], s[1], s[2], s[3], s[4], s[5], s[6], s[7])
+    join(q[0], q[1], q[2], q[3], q[4], q[5], q[6], q[7])
+}
+
+// The number of the second half of a block.
+fn low(q: Block) -> u64
+    ensures { λ r. ⌜ r ≡ number (entries 8 8 q) ⌝ }
+{
+    join(q[8], q[9], q[10], q[11], q[12], q[13], q[14], q[15])
 }
 
 // The block of two halves.
@@ -71,8 +77,8 @@ fn split(hi: u64, lo: u64) -> Block
 pub fn plus(q: Block, i: u64) -> Block
     ensures { λ r. ⌜ r ≡ plus q i ⌝ }
 {
-    let hi = half(&q[0..8]);
-    let lo = half(&q[8..16]);
+    let hi = high(q);
+    let lo = low(q);
     let sum = std::num::wrapping_add_u64(lo, i);
     if sum < lo {
         return split(std::num::wrapping_add_u64(hi, 1), sum);

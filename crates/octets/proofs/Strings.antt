@@ -12,7 +12,7 @@ use lib.Dec.{eqb}
 use lib.ListN.{length, take, drop, getD, set, length-append, length-drop, length-set}
 use lib.Seq.{paste, paste-zero, paste-suc, take-length, drop-length, length-take-le, take-at, drop-at, drop-drop, take-suc, take-take, take-all, getD-take}
 use borrow.Author.Tests.{eqb-true, eq-eqb}
-use Rattle.octets.specs.Octets.{xors, put, part, same}
+use Rattle.octets.specs.Octets.{xors, put, part, entries, same}
 use Rattle.octets.proofs.Bits.{xor-undo, xor-zero, or-zero}
 use Rattle.octets.proofs.Tests.{bool-ext}
 
@@ -78,11 +78,6 @@ part-to l at n =
 -- all that is left from a place on, as `&s[at..]` has it
 pub part-rest : (l : List ℕ) (at : ℕ) → part l at (length l - at) ≡ drop at l
 part-rest l at = take-all (length l - at) (drop at l) (simp length-drop (omega arith))
-
--- n bytes of `l` from place i on, one by one; at a numeral n it computes to the list of them
-abbrev pub entries : ℕ → ℕ → List ℕ → List ℕ
-entries zero i l = []
-entries (suc n) i l = getD l i 0 ∷ entries n (suc i) l
 
 entries-tail : (n i x : ℕ) (l : List ℕ) → entries n (suc i) (x ∷ l) ≡ entries n i l
 entries-tail zero i x l = refl

@@ -2,10 +2,10 @@
 -- Assumes nothing.
 use mathlib.Core.Bool.{Bool, true, false, _&&_}
 use mathlib.Core.List.{List, [], _∷_, _++_}
-use Prim.Native.Nat.{ℕ, _+_}
+use Prim.Native.Nat.{ℕ, zero, suc, _+_}
 use lib.Bits.{bitXor}
 use lib.Dec.{eqb}
-use lib.ListN.{length, take, drop}
+use lib.ListN.{length, take, drop, getD}
 
 -- `b` xored into the front of `a`: the result is as long as `a`, what `b` lacks counts as zeros and what it has beyond `a` is left out
 unfoldable pub xors : List ℕ → List ℕ → List ℕ
@@ -20,6 +20,11 @@ put l at s = take at l ++ s ++ drop (at + length s) l
 -- `n` bytes of `l` from place `at` on
 abbrev pub part : List ℕ → ℕ → ℕ → List ℕ
 part l at n = take n (drop at l)
+
+-- n bytes of `l` from place i on, one by one; at a numeral n it computes to the list of them
+abbrev pub entries : ℕ → ℕ → List ℕ → List ℕ
+entries zero i l = []
+entries (suc n) i l = getD l i 0 ∷ entries n (suc i) l
 
 -- whether two strings are the same
 unfoldable pub same : List ℕ → List ℕ → Bool

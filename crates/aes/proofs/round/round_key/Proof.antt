@@ -6,7 +6,8 @@ use native.Mathlib.Omega.{arith}
 use lib.ListN.{length}
 use borrow.Author.Needs.{needs}
 use Rattle.octets.specs.Octets.{part}
-use Rattle.octets.proofs.Strings.{entries, length-part}
+use Rattle.octets.specs.Octets.{entries}
+use Rattle.octets.proofs.Strings.{length-part}
 use Rattle.aes.proofs.Words.{state-bytes, whole}
 use Rattle.aes.proofs.round.round_key.Statement.{statement}
 use Rattle.aes.proofs.round.round_key.Tie as tie
