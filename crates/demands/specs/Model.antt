@@ -48,7 +48,7 @@ module _ (key bytes lens : List ℕ) where
   abbrev pub sealTag : List ℕ → List ℕ
   sealTag A = tagOf key (strings bytes lens) A
 
-  -- whether whole opening, with buffers as large as it needs, wholeAccepts T followed by A
+  -- whether whole opening, with buffers as large as it needs, accepts T followed by A
   unfoldable pub wholeAccepts : List ℕ → List ℕ → Bool
   wholeAccepts T A = eqb (openNumber key bytes lens (T ++ A) (replicate (length A) 0) (replicate (scratchNeed (length A)) 0)) 0
 
@@ -65,7 +65,7 @@ module _ (key bytes lens : List ℕ) where
     abbrev pub shown : ModelState → List ℕ
     shown b = shownBy begin b
 
-    -- whether finish wholeAccepts; a sealer has no stage that finish wants
+    -- whether finish accepts; a sealer has no stage that finish wants
     abbrev pub acceptsBy : Begin → List ℕ → Bool
     acceptsBy sealer A = false
     acceptsBy (opener T) A = wholeAccepts T A

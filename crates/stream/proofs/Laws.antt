@@ -88,8 +88,8 @@ pub record Fit (wanted : ℕ) (s : Stream) : Type 0 where
 pub fit : (wanted : ℕ) (s : Stream) → fits wanted s ≡ true → Fit wanted s
 unfolding fits
 fit wanted s e =
-    let a = and-eq-true-iff _ (allZero (drop (tailLength (s .total)) (s .tail))) .0 e .0 in
-    let b = and-eq-true-iff _ (not (ltb (writtenLimit wanted (s .total)) (s .written))) .0 a in
+    let judged = eqb (s .stage) wanted && isWidth (s .width) && not (ltb limit (s .total)) && not (ltb (writtenLimit wanted (s .total)) (s .written)) in
+    let b = and-eq-true-iff _ (not (ltb (writtenLimit wanted (s .total)) (s .written))) .0 (and-eq-true-iff judged _ .0 e .0) in
     let d = and-eq-true-iff _ (not (ltb limit (s .total))) .0 (b .0) in
     let f = and-eq-true-iff (eqb (s .stage) wanted) (isWidth (s .width)) .0 (d .0) in
     record {
