@@ -12,7 +12,7 @@ use Rattle.octets.specs.Octets.{put}
 use Rattle.siv.specs.declared.Answer.{Answer}
 use Rattle.siv.specs.declared.Answer.the-variants.{Ok, Refused}
 use Rattle.siv.specs.declared.Refusal.{Refusal}
-use Rattle.siv.specs.declared.Refusal.the-variants.{KeyLength, HeaderCount, HeaderLengths, TooLong, SealedLength, OutputShort, ScratchShort, Forged, State, EmptyNonce}
+use Rattle.siv.specs.declared.Refusal.the-variants.{KeyLength, HeaderCount, HeaderLengths, TooLong, SealedLength, OutputShort, ScratchShort, Forged, State, EmptyNonce, RingLength}
 use Rattle.siv.specs.Answer.{Outcome, Row, row, first, withoutLength, numberOf, outcomeOf}
 use Rattle.siv.specs.Calls.{CallResult, isKeyLength, sealTable, sealNumber, sealCall, openTable, openNumber, openCall}
 use Rattle.siv.proofs.Laws.{lacks, first-not, refusal-number}
@@ -165,7 +165,7 @@ finishing s output =
 -- a refusal by its number
 refusal : ℕ → Refusal
 refusal n =
-    getD (KeyLength ∷ HeaderCount ∷ HeaderLengths ∷ TooLong ∷ SealedLength ∷ OutputShort ∷ ScratchShort ∷ Forged ∷ State ∷ []) (pred n) EmptyNonce
+    getD (KeyLength ∷ HeaderCount ∷ HeaderLengths ∷ TooLong ∷ SealedLength ∷ OutputShort ∷ ScratchShort ∷ Forged ∷ State ∷ EmptyNonce ∷ []) (pred n) RingLength
 
 by-number : (r : Refusal) → refusal (numberOf r) ≡ r
 unfolding refusal
@@ -179,6 +179,7 @@ by-number ScratchShort = refl
 by-number Forged = refl
 by-number State = refl
 by-number EmptyNonce = refl
+by-number RingLength = refl
 
 outcome-tells : (a b : Answer) → outcomeOf a ≡ outcomeOf b → a ≡ b
 outcome-tells (Ok m) (Ok n) e = ap (λ (k : ℕ). Ok k) (ap (λ (o : Outcome). o .count) e)

@@ -1,26 +1,27 @@
 -- The first demand: every call gives the complete result, or the one refusal that is first due, with state and buffers as document 01's table says.
 -- Assumes nothing.
 use mathlib.Core.Path.{_≡_}
-use mathlib.Core.Bool.{Bool, true, false, cond}
-use mathlib.Core.List.{List, [], _∷_}
-use Prim.Native.Nat.{ℕ, _+_, _-_}
+use mathlib.Core.Bool.{Bool, true, false, not, cond, _&&_}
+use mathlib.Core.List.{List, [], _∷_, _++_}
+use Prim.Native.Nat.{ℕ, zero, suc, _+_, _-_, _/_, _%_}
 use lib.Dec.{eqb}
-use lib.ListN.{length, replicate}
+use lib.ListN.{length, drop, replicate}
 use Rattle.octets.specs.Octets.{put}
 use Rattle.cmac.specs.Cmac.{zeros}
 use Rattle.header.specs.Header.{strings}
 use Rattle.siv.specs.declared.Answer.{Answer}
 use Rattle.siv.specs.Answer.{Row, row, outcomeOf}
-use Rattle.siv.specs.Calls.{CallResult, scratchNeed, headerRows, sealTable, sealCall, openTable, openCall}
-use Rattle.siv.specs.Siv.{sealed, opened}
+use Rattle.siv.specs.Calls.{CallResult, scratchNeed, headerRows, openRows, sealTable, sealCall, openTable, openCall}
+use Rattle.siv.specs.Ring.{slots, slotKey, ringRows, RingResult, openRing}
+use Rattle.siv.specs.Siv.{sealed, opened, genuine}
 use Rattle.stream.specs.declared.Stream.{Stream}
 use Rattle.stream.specs.State.{ended, start, added, tagOfState}
 use Rattle.stream.specs.Steps.{StepResult, doneStep, refusedStep, beginSealer, openerRows, beginOpener, addRows, addStep, turnRows, turned, turnStep, writeRows, wrote, streamedAt, writeStep, closeRows, closeStep, feedRows, feedStep, finishTable, finishStep}
-use Rattle.kinphlor.specs.Interface.{aeadLens, sealFromC, openFromC}
+use Rattle.kinphlor.specs.Interface.{aeadLens, packed, sealFromC, openFromC, packedRing, openRingFromC}
 
--- document 01's order of refusals
+-- document 01's order of refusals, with document 02's 11 straight after 1
 abbrev pub order : List ℕ
-order = 9 ∷ 1 ∷ 10 ∷ 2 ∷ 3 ∷ 5 ∷ 4 ∷ 6 ∷ 7 ∷ 8 ∷ []
+order = 9 ∷ 1 ∷ 11 ∷ 10 ∷ 2 ∷ 3 ∷ 5 ∷ 4 ∷ 6 ∷ 7 ∷ 8 ∷ []
 
 -- whether rows keep an order
 abbrev pub keeps : List ℕ → List Row → Bool
@@ -76,6 +77,42 @@ pub record FirstFromC (table : List Row) (nonce : ℕ) (output scratch : List �
   pub empty : result .outcome .number ≡ 10 → Leaves result 10 0 output scratch
   pub otherwise : (result .outcome .number ≡ 10 → ⊥) → result ≡ call
 
+-- ---- a ring of keys
+
+-- no slot below n passes a test
+abbrev pub noSlot : (ℕ → Bool) → ℕ → Bool
+noSlot test zero = true
+noSlot test (suc n) = not (test n) && noSlot test n
+
+module _ (keyLength : ℕ) (ring bytes lens input output scratch : List ℕ) where
+  -- the ring's rows: 1, 11 and those that the C interface puts behind them; then those of one key, with 8 where no slot's key opens
+  abbrev pub ringTable : List Row → List Row
+  ringTable behind =
+      ringRows keyLength (length ring) ++ behind ++ drop 1 (headerRows keyLength lens (length bytes)) ++ openRows (length input) (length output) (length scratch)
+      ++ (row 8 (noSlot (λ i. genuine (slotKey keyLength ring i) (strings bytes lens) input) (slots keyLength (length ring))) ∷ [])
+
+  -- the scratch that the plaintext needs, zero
+  abbrev pub scratchCleared : List ℕ
+  scratchCleared = put scratch 0 (replicate (scratchNeed (length input - 16)) 0)
+
+  -- an opening under the ring by its table: the buffers are as after an opening under one key, the slot's; a refusal gives slot 0
+  pub record FirstRing (table : List Row) (result : RingResult) : Type 0 where
+    pub ordered : keeps order table ≡ true
+    pub first : FirstDue table (result .call .outcome .number)
+    pub done : result .call .outcome .number ≡ 0
+        → Leaves (result .call) 0 (length input - 16) (put output 0 (opened (slotKey keyLength ring (result .slot)) input)) scratchCleared
+    pub forged : result .call .outcome .number ≡ 8 → Leaves (result .call) 8 0 (put output 0 (replicate (length input - 16) 0)) scratchCleared
+    pub refused : (n : ℕ) → result .call .outcome .number ≡ n → (n ≡ 0 → ⊥) → (n ≡ 8 → ⊥) → Leaves (result .call) n 0 output scratch
+    pub slotless : (result .call .outcome .number ≡ 0 → ⊥) → result .slot ≡ 0
+
+-- ---- the number that C gets
+
+-- its parts as the header reads them: the answer from bit 32 on, the slot in the four bits below, the length in the 28 below these
+pub record Parts (given number slot count : ℕ) : Type 0 where
+  pub high : given / 4294967296 ≡ number
+  pub middle : given / 268435456 % 16 ≡ slot
+  pub low : given % 268435456 ≡ count
+
 -- ---- piecewise calls
 
 -- a call by its table: a refusal returns state and output as given
@@ -103,6 +140,22 @@ pub record First : Type 0 where
   pub openingFromC : (key header input output scratch : List ℕ) (ad nonce : ℕ)
       → FirstFromC (openTable key header (aeadLens ad nonce) input output scratch) nonce output scratch (openCall key header (aeadLens ad nonce) input output scratch)
       (openFromC key header ad nonce input output scratch)
+  pub openingRing : (keyLength : ℕ) (ring bytes lens input output scratch : List ℕ)
+      → FirstRing keyLength ring bytes lens input output scratch (ringTable keyLength ring bytes lens input output scratch [])
+      (openRing keyLength ring bytes lens input output scratch)
+  pub openingRingFromC : (keyLength : ℕ) (ring header input output scratch : List ℕ) (ad nonce : ℕ)
+      → FirstRing keyLength ring header (aeadLens ad nonce) input output scratch
+      (ringTable keyLength ring header (aeadLens ad nonce) input output scratch (row 10 (eqb nonce 0) ∷ []))
+      (openRingFromC keyLength ring header ad nonce input output scratch)
+  pub sealingParts : (key header input output scratch : List ℕ) (ad nonce : ℕ)
+      → let o = sealFromC key header ad nonce input output scratch .outcome in
+      Parts (packed o) (o .number) 0 (o .count)
+  pub openingParts : (key header input output scratch : List ℕ) (ad nonce : ℕ)
+      → let o = openFromC key header ad nonce input output scratch .outcome in
+      Parts (packed o) (o .number) 0 (o .count)
+  pub openingRingParts : (keyLength : ℕ) (ring header input output scratch : List ℕ) (ad nonce : ℕ)
+      → let r = openRingFromC keyLength ring header ad nonce input output scratch in
+      Parts (packedRing (r .slot) (r .call .outcome)) (r .call .outcome .number) (r .slot) (r .call .outcome .count)
   pub beginningSealer : (key bytes lens : List ℕ)
       → FirstStep (headerRows (length key) lens (length bytes)) (beginSealer key bytes lens) (doneStep 0 (start key (strings bytes lens) 1 zeros) []) ended []
   pub beginningOpener : (key bytes lens tag : List ℕ)

@@ -1,6 +1,7 @@
 pub mod Cases
 pub mod First
 pub mod Whole
+pub mod Ring
 pub mod Run
 pub mod Model
 pub mod Third

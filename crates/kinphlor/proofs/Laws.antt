@@ -7,14 +7,14 @@ use Prim.Native.Nat.{ℕ, _≤_}
 use native.Mathlib.Omega.{arith}
 use lib.ListN.{length}
 use Rattle.siv.specs.declared.Refusal.{Refusal}
-use Rattle.siv.specs.declared.Refusal.the-variants.{KeyLength, HeaderCount, HeaderLengths, TooLong, SealedLength, OutputShort, ScratchShort, Forged, State, EmptyNonce}
+use Rattle.siv.specs.declared.Refusal.the-variants.{KeyLength, HeaderCount, HeaderLengths, TooLong, SealedLength, OutputShort, ScratchShort, Forged, State, EmptyNonce, RingLength}
 use Rattle.siv.specs.declared.Answer.{Answer}
 use Rattle.siv.specs.Answer.{Outcome, numberOf, outcomeOf, withoutLength}
 use Rattle.siv.specs.Calls.{CallResult, DidCall}
 use Rattle.kinphlor.specs.Interface.{packed, emptyNonce, fromC, DidPacked}
 
 -- a refusal's number is small, so that an answer fits in one number
-pub number-most : (r : Refusal) → numberOf r ≤ 10
+pub number-most : (r : Refusal) → numberOf r ≤ 11
 number-most KeyLength = omega arith
 number-most HeaderCount = omega arith
 number-most HeaderLengths = omega arith
@@ -25,6 +25,7 @@ number-most ScratchShort = omega arith
 number-most Forged = omega arith
 number-most State = omega arith
 number-most EmptyNonce = omega arith
+number-most RingLength = omega arith
 
 module _ (nonce : ℕ) (key output scratch : List ℕ) (call : CallResult) where
   pub nonce-refused : {r : ℕ} → emptyNonce (length key) nonce ≡ true → r ≡ packed (withoutLength 10) → DidPacked (fromC nonce key output scratch call) r output scratch

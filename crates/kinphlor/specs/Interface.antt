@@ -1,4 +1,4 @@
--- The C interface, "the host door" of document 01: whole sealing and opening with associated data and nonce.
+-- The C interface, "the host door" of document 01: whole sealing and opening with associated data and nonce, and opening under a ring of keys.
 -- Assumes nothing.
 use mathlib.Core.Path.{_≡_}
 use mathlib.Core.Bool.{Bool, cond, _&&_}
@@ -9,6 +9,7 @@ use lib.ListN.{length}
 use denote.Ref.{now}
 use Rattle.siv.specs.Answer.{Outcome, withoutLength}
 use Rattle.siv.specs.Calls.{isKeyLength, CallResult, sealCall, openCall, Lent}
+use Rattle.siv.specs.Ring.{isRing, RingResult, refusedRing, openRing}
 
 -- the header list: associated data, then nonce
 abbrev pub aeadLens : ℕ → ℕ → List ℕ
@@ -46,4 +47,33 @@ pub record DidPacked (result : CallResult) (given : ℕ) (lastOutput lastScratch
 abbrev pub PerformsFromC : (List ℕ → List ℕ → ℕ → ℕ → List ℕ → List ℕ → List ℕ → CallResult) → Lent → Lent → ℕ → ℕ → Lent → Lent → Lent → ℕ → Type 0
 PerformsFromC call key header ad nonce input output scratch given =
     DidPacked (call (now (key .entry)) (now (header .entry)) ad nonce (now (input .entry)) (now (output .entry)) (now (scratch .entry))) given
+    (now (output .exit)) (now (scratch .exit))
+
+-- ---- a ring of keys
+
+-- slot 0 is the single calls' own form; another slot is added, times 2 to the power 28
+abbrev pub packedRing : ℕ → Outcome → ℕ
+packedRing slot o = packed o + slot * 268435456
+
+-- whether an empty nonce is refused, with 10, straight after 1 and 11 for the ring
+unfoldable pub emptyNonceRing : ℕ → ℕ → ℕ → Bool
+emptyNonceRing keyLength n nonce = isKeyLength keyLength && isRing keyLength n && eqb nonce 0
+
+-- opening under a ring from C
+unfoldable pub openRingFromC : ℕ → List ℕ → List ℕ → ℕ → ℕ → List ℕ → List ℕ → List ℕ → RingResult
+openRingFromC keyLength ring header ad nonce input output scratch =
+    cond (emptyNonceRing keyLength (length ring) nonce) (refusedRing 10 output scratch)
+    (openRing keyLength ring header (aeadLens ad nonce) input output scratch)
+
+-- a ring's call of the interface gave what its definition says
+pub record DidPackedRing (result : RingResult) (given : ℕ) (lastOutput lastScratch : List ℕ) : Type 0 where
+  pub answer : given ≡ packedRing (result .slot) (result .call .outcome)
+  pub output : lastOutput ≡ result .call .output
+  pub scratch : lastScratch ≡ result .call .scratch
+
+-- what a ring's call of the interface promises
+abbrev pub PerformsRingFromC : ℕ → Lent → Lent → ℕ → ℕ → Lent → Lent → Lent → ℕ → Type 0
+PerformsRingFromC keyLength ring header ad nonce input output scratch given =
+    DidPackedRing
+    (openRingFromC keyLength (now (ring .entry)) (now (header .entry)) ad nonce (now (input .entry)) (now (output .entry)) (now (scratch .entry))) given
     (now (output .exit)) (now (scratch .exit))

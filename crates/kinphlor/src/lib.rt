@@ -20,6 +20,7 @@ fn number(r: Refusal) -> u64
         Refusal::Forged => 8,
         Refusal::State => 9,
         Refusal::EmptyNonce => 10,
+        Refusal::RingLength => 11,
     }
 }
 

@@ -22,7 +22,7 @@ use Rattle.ctr.proofs.Laws.{length-xorStream}
 use Rattle.siv.specs.declared.Answer.{Answer}
 use Rattle.siv.specs.declared.Answer.the-variants.{Ok, Refused}
 use Rattle.siv.specs.declared.Refusal.{Refusal}
-use Rattle.siv.specs.declared.Refusal.the-variants.{KeyLength, HeaderCount, HeaderLengths, TooLong, SealedLength, OutputShort, ScratchShort, Forged, State, EmptyNonce}
+use Rattle.siv.specs.declared.Refusal.the-variants.{KeyLength, HeaderCount, HeaderLengths, TooLong, SealedLength, OutputShort, ScratchShort, Forged, State, EmptyNonce, RingLength}
 use Rattle.siv.specs.Answer.{Outcome, Row, row, first, numberOf, outcomeOf, withoutLength}
 use Rattle.siv.specs.Calls.{isKeyLength, limit, scratchNeed, headerRows, sealRows, openRows, Usable, DidCall, sealNumber, sealCall, openNumber, openCall}
 use Rattle.siv.specs.Siv.{streamed, sealed, opened, genuine}
@@ -105,6 +105,7 @@ refusal-number ScratchShort e = omega arith
 refusal-number Forged e = omega arith
 refusal-number State e = omega arith
 refusal-number EmptyNonce e = omega arith
+refusal-number RingLength e = omega arith
 
 -- what a match tells of an answer: 0 and 1 are the places of its cases
 pub told-refused : (a : Answer) → OneOf (1 ∷ []) (tagOf the-type a) → outcomeOf a .number ≡ 0 → ⊥

@@ -4,7 +4,7 @@ use mathlib.Core.Bool.{Bool, cond}
 use mathlib.Core.List.{List, [], _∷_}
 use Prim.Native.Nat.{ℕ}
 use Rattle.siv.specs.declared.Refusal.{Refusal}
-use Rattle.siv.specs.declared.Refusal.the-variants.{KeyLength, HeaderCount, HeaderLengths, TooLong, SealedLength, OutputShort, ScratchShort, Forged, State, EmptyNonce}
+use Rattle.siv.specs.declared.Refusal.the-variants.{KeyLength, HeaderCount, HeaderLengths, TooLong, SealedLength, OutputShort, ScratchShort, Forged, State, EmptyNonce, RingLength}
 use Rattle.siv.specs.declared.Answer.{Answer}
 use Rattle.siv.specs.declared.Answer.the-variants.{Ok, Refused}
 
@@ -25,6 +25,7 @@ numberOf ScratchShort = 7
 numberOf Forged = 8
 numberOf State = 9
 numberOf EmptyNonce = 10
+numberOf RingLength = 11
 
 -- success with a length, and a number with length 0
 abbrev pub success : ℕ → Outcome

@@ -1,3 +1,4 @@
 pub mod Answer
 pub mod Siv
 pub mod Calls
+pub mod Ring

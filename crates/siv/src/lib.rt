@@ -33,12 +33,20 @@ pub enum Refusal {
     State,
     // The nonce is empty.
     EmptyNonce,
+    // The ring is not one to four whole keys.
+    RingLength,
 }
 
 // Success with a count of bytes, or a refusal.
 pub enum Answer {
     Ok(usize),
     Refused(Refusal),
+}
+
+// An answer, and the slot of the ring whose key opened; 0 after a refusal.
+pub struct RingAnswer {
+    pub answer: Answer,
+    pub slot: usize,
 }
 
 // Whether a key may have n bytes.
