@@ -4,19 +4,27 @@
  * The header of a record is two strings, associated data and then a nonce, as in section 3 of the RFC. A sealed record
  * is the tag of 16 bytes, then the ciphertext, which is as long as the plaintext.
  *
- * Both functions take the same arguments. n is the plaintext's length.
+ * kinphlor_seal and kinphlor_open work under one key. kinphlor_open_ring is for the time in which keys change: it tries
+ * the keys of a ring from slot 0 on and stops at the first that opens the record. With a ring of one key it does what
+ * kinphlor_open does.
  *
- *   key, key_len        32, 48 or 64 bytes. The first half serves the tag, the second half the key stream.
+ * All take the same arguments but for the keys. n is the plaintext's length.
+ *
+ *   key, key_len        seal, open: 32, 48 or 64 bytes. The first half serves the tag, the second half the key stream.
+ *   key_len,            open_ring: the length of one key, 32, 48 or 64; and the ring, one to four keys of that length,
+ *     ring, ring_len    one directly after the other, in slots 0 to 3
  *   header, header_len  the associated data, directly followed by the nonce
  *   ad_len, nonce_len   the lengths of these two. Their sum must be header_len; nonce_len must not be 0.
- *   input, input_len    seal: the plaintext, n bytes. open: the sealed record, n + 16 bytes.
- *   output, output_len  seal: room for n + 16 bytes. open: room for n bytes.
+ *   input, input_len    seal: the plaintext, n bytes. open, open_ring: the sealed record, n + 16 bytes.
+ *   output, output_len  seal: room for n + 16 bytes. open, open_ring: room for n bytes.
  *   scratch,            working memory: n bytes, and at least 16 (kinphlor_scratch_len)
  *     scratch_len
  *
- * The result is one number: the answer times 2 to the power 32, plus a length (kinphlor_number, kinphlor_length). The
- * length is that of what was written from the front of the output, and 0 after a refusal. The answers are listed below;
- * where several are due, the first in this order is given: 1, 10, 2, 3, 5, 4, 6, 7, 8.
+ * The result is one number: the answer times 2 to the power 32, plus a slot times 2 to the power 28, plus a length
+ * (kinphlor_number, kinphlor_slot, kinphlor_length). The slot is that of the ring's key that opened the record; it is 0
+ * from seal and open, and after a refusal. The length is that of what was written from the front of the output, and 0
+ * after a refusal. The answers are listed below; where several are due, the first in this order is given: 1, 11, 10, 2,
+ * 3, 5, 4, 6, 7, 8.
  *
  * What memory holds afterwards:
  *
@@ -26,10 +34,10 @@
  *                   opens into scratch, so that no byte of an unapproved plaintext is in the output even meanwhile.
  *   other refusals  output and scratch are untouched
  *
- * Bytes of output and scratch past these keep their values. Key, header and input are only read.
+ * Bytes of output and scratch past these keep their values. Keys, header and input are only read.
  *
  * The proof assumes of the caller: each pointer is valid for its length and is not null, even where the length is 0
- * (the _nullable functions lift that); output and scratch overlap neither each other nor key, header or input. So a
+ * (the _nullable functions lift that); output and scratch overlap neither each other nor keys, header or input. So a
  * record is not sealed or opened in place.
  *
  * The functions keep nothing between calls and take no memory from the heap. Calls in several threads at once are fine
@@ -55,19 +63,23 @@ extern "C" {
 /* The least scratch, in bytes. */
 #define KINPHLOR_SCRATCH_MIN 16
 
+/* The most keys in a ring. */
+#define KINPHLOR_RING_MAX 4
+
 /* The answers. */
 enum kinphlor_answer {
     KINPHLOR_OK = 0,
-    KINPHLOR_KEY_LENGTH = 1,     /* the key has not 32, 48 or 64 bytes */
+    KINPHLOR_KEY_LENGTH = 1,     /* key_len is not 32, 48 or 64 */
     KINPHLOR_HEADER_COUNT = 2,   /* more than 126 header strings; never from these functions, which have two */
     KINPHLOR_HEADER_LENGTHS = 3, /* ad_len + nonce_len is not header_len */
     KINPHLOR_TOO_LONG = 4,       /* plaintext over 1,048,576 bytes, or sealed record over 1,048,592 */
     KINPHLOR_SEALED_LENGTH = 5,  /* sealed record under 16 bytes */
     KINPHLOR_OUTPUT_SHORT = 6,   /* output too short */
     KINPHLOR_SCRATCH_SHORT = 7,  /* scratch too short */
-    KINPHLOR_FORGED = 8,         /* not sealed under this key and header: damaged or forged */
+    KINPHLOR_FORGED = 8,         /* not sealed under this header and this key, or any of the ring: damaged or forged */
     KINPHLOR_STATE = 9,          /* a stream state that is not one for the call; never from these functions */
-    KINPHLOR_EMPTY_NONCE = 10    /* nonce_len is 0 */
+    KINPHLOR_EMPTY_NONCE = 10,   /* nonce_len is 0 */
+    KINPHLOR_RING_LENGTH = 11    /* ring_len is not one to four times key_len; from kinphlor_open_ring alone */
 };
 
 uint64_t kinphlor_seal(const uint8_t *key, size_t key_len, const uint8_t *header, size_t header_len,
@@ -78,11 +90,18 @@ uint64_t kinphlor_open(const uint8_t *key, size_t key_len, const uint8_t *header
                        uint32_t ad_len, uint32_t nonce_len, const uint8_t *input, size_t input_len,
                        uint8_t *output, size_t output_len, uint8_t *scratch, size_t scratch_len);
 
+uint64_t kinphlor_open_ring(size_t key_len, const uint8_t *ring, size_t ring_len, const uint8_t *header,
+                            size_t header_len, uint32_t ad_len, uint32_t nonce_len, const uint8_t *input,
+                            size_t input_len, uint8_t *output, size_t output_len, uint8_t *scratch, size_t scratch_len);
+
 /* The answer in a result: one of enum kinphlor_answer. */
 static inline uint32_t kinphlor_number(uint64_t result) { return (uint32_t)(result >> 32); }
 
+/* The slot in a result: which key of the ring opened the record. It is 0 after a refusal too. */
+static inline uint32_t kinphlor_slot(uint64_t result) { return (uint32_t)(result >> 28) & 15u; }
+
 /* The length in a result: how many bytes of the output were written. */
-static inline uint32_t kinphlor_length(uint64_t result) { return (uint32_t)(result & 0xffffffffu); }
+static inline uint32_t kinphlor_length(uint64_t result) { return (uint32_t)(result & 0x0fffffffu); }
 
 /* The scratch that a plaintext of n bytes needs. */
 static inline size_t kinphlor_scratch_len(size_t n) { return n < KINPHLOR_SCRATCH_MIN ? KINPHLOR_SCRATCH_MIN : n; }
@@ -101,6 +120,7 @@ static inline const char *kinphlor_text(uint32_t number) {
     case KINPHLOR_FORGED: return "the record is damaged or forged";
     case KINPHLOR_STATE: return "the stream state is not one for this call";
     case KINPHLOR_EMPTY_NONCE: return "the nonce is empty";
+    case KINPHLOR_RING_LENGTH: return "the ring is not one to four whole keys";
     default: return "unknown answer";
     }
 }
@@ -131,6 +151,18 @@ static inline uint64_t kinphlor_open_nullable(const uint8_t *key, size_t key_len
     return kinphlor_open(key ? key : some, key_len, header ? header : some, header_len, ad_len, nonce_len,
                          input ? input : some, input_len, output ? output : some, output_len,
                          scratch ? scratch : some, scratch_len);
+}
+
+/* kinphlor_open_ring in the same way. */
+static inline uint64_t kinphlor_open_ring_nullable(size_t key_len, const uint8_t *ring, size_t ring_len,
+                                                   const uint8_t *header, size_t header_len, uint32_t ad_len,
+                                                   uint32_t nonce_len, const uint8_t *input, size_t input_len,
+                                                   uint8_t *output, size_t output_len, uint8_t *scratch,
+                                                   size_t scratch_len) {
+    uint8_t *const some = kinphlor_some_byte();
+    return kinphlor_open_ring(key_len, ring ? ring : some, ring_len, header ? header : some, header_len, ad_len,
+                              nonce_len, input ? input : some, input_len, output ? output : some, output_len,
+                              scratch ? scratch : some, scratch_len);
 }
 
 #ifdef __cplusplus

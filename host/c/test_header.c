@@ -1,4 +1,4 @@
-/* kinphlor.h called from C and C++: sealing, opening, a damaged record, NULL for empty buffers, and the texts. */
+/* kinphlor.h called from C and C++: sealing, opening, rings, damaged records, NULL for empty buffers, and the texts. */
 #include "kinphlor.h"
 
 #include <stdio.h>
@@ -22,18 +22,18 @@ static void check(const char *what, int holds, int line) {
     checks++;
 }
 
-static void check_result(const char *what, uint64_t result, uint32_t number, uint32_t length, int line) {
-    if (kinphlor_number(result) != number || kinphlor_length(result) != length) {
-        fprintf(stderr, "c: FAILED at line %d: %s: expected %lu (%s) and length %lu, got %lu (%s) and length %lu\n", line,
-                what, (unsigned long)number, kinphlor_text(number), (unsigned long)length,
+static void check_result(const char *what, uint64_t result, uint32_t number, uint32_t slot, uint32_t length, int line) {
+    if (kinphlor_number(result) != number || kinphlor_slot(result) != slot || kinphlor_length(result) != length) {
+        fprintf(stderr, "c: FAILED at line %d: %s: expected %lu (%s), slot %lu, length %lu, got %lu (%s), slot %lu, length %lu\n",
+                line, what, (unsigned long)number, kinphlor_text(number), (unsigned long)slot, (unsigned long)length,
                 (unsigned long)kinphlor_number(result), kinphlor_text(kinphlor_number(result)),
-                (unsigned long)kinphlor_length(result));
+                (unsigned long)kinphlor_slot(result), (unsigned long)kinphlor_length(result));
         exit(1);
     }
     checks++;
 }
 
-#define CHECK_RESULT(what, result, number, length) check_result(what, result, number, length, __LINE__)
+#define CHECK_RESULT(what, result, number, length) check_result(what, result, number, 0, length, __LINE__)
 
 /* Whether each of the bytes has the value. */
 static int all(const uint8_t *bytes, size_t len, uint8_t value) {
@@ -45,11 +45,34 @@ static int all(const uint8_t *bytes, size_t len, uint8_t value) {
 }
 
 static uint8_t key[64];
+static uint8_t ring[(KINPHLOR_RING_MAX + 1) * sizeof key];
 static uint8_t header[32];
 static uint8_t plain[PLAIN_LEN];
 static uint8_t sealed[SEALED_LEN + LATER];
 static uint8_t opened[PLAIN_LEN + LATER];
 static uint8_t scratch[PLAIN_LEN + LATER];
+
+static void fill(void) {
+    memset(opened, FILL, sizeof opened);
+    memset(scratch, FILL, sizeof scratch);
+}
+
+/* An opening of the record in memory that was filled: its result, and what the memory holds after it. */
+static void check_opening(const char *what, uint64_t result, uint32_t number, uint32_t slot, int line) {
+    const int ok = number == KINPHLOR_OK, forged = number == KINPHLOR_FORGED;
+
+    check_result(what, result, number, slot, ok ? PLAIN_LEN : 0, line);
+    if (ok) {
+        check("a sealed record opens to its plaintext", memcmp(opened, plain, PLAIN_LEN) == 0, line);
+    } else {
+        check("zeros in the plaintext's place, or what was there", all(opened, PLAIN_LEN, forged ? 0 : FILL), line);
+    }
+    check("opening leaves later output bytes", all(opened + PLAIN_LEN, LATER, FILL), line);
+    check("opening wipes the scratch, or leaves it", all(scratch, PLAIN_LEN, ok || forged ? 0 : FILL), line);
+    check("opening leaves later scratch bytes", all(scratch + PLAIN_LEN, LATER, FILL), line);
+}
+
+#define CHECK_OPENING(what, call, number, slot) (fill(), check_opening(what, call, number, slot, __LINE__))
 
 /* A record with that much associated data sealed, opened, damaged at each byte. */
 static void record(size_t key_len, uint32_t ad_len, uint32_t nonce_len) {
@@ -64,26 +87,43 @@ static void record(size_t key_len, uint32_t ad_len, uint32_t nonce_len) {
     CHECK("sealing leaves later output bytes", all(sealed + SEALED_LEN, LATER, FILL));
     CHECK("sealing wipes the scratch", all(scratch, PLAIN_LEN, 0) && all(scratch + PLAIN_LEN, LATER, FILL));
 
-    memset(opened, FILL, sizeof opened);
-    memset(scratch, FILL, sizeof scratch);
-    CHECK_RESULT("open", kinphlor_open_nullable(key, key_len, header, header_len, ad_len, nonce_len, sealed, SEALED_LEN,
-                                                opened, sizeof opened, scratch, sizeof scratch),
-                 KINPHLOR_OK, PLAIN_LEN);
-    CHECK("a sealed record opens to its plaintext", memcmp(opened, plain, PLAIN_LEN) == 0);
-    CHECK("opening leaves later output bytes", all(opened + PLAIN_LEN, LATER, FILL));
-    CHECK("opening wipes the scratch", all(scratch, PLAIN_LEN, 0) && all(scratch + PLAIN_LEN, LATER, FILL));
-
+    CHECK_OPENING("open", kinphlor_open_nullable(key, key_len, header, header_len, ad_len, nonce_len, sealed, SEALED_LEN,
+                                                 opened, sizeof opened, scratch, sizeof scratch),
+                  KINPHLOR_OK, 0);
     for (i = 0; i < SEALED_LEN; i++) {
         sealed[i] ^= 0x40;
-        memset(opened, FILL, sizeof opened);
-        memset(scratch, FILL, sizeof scratch);
-        CHECK_RESULT("open a damaged record",
-                     kinphlor_open_nullable(key, key_len, header, header_len, ad_len, nonce_len, sealed, SEALED_LEN, opened,
-                                            sizeof opened, scratch, sizeof scratch),
-                     KINPHLOR_FORGED, 0);
-        CHECK("zeros in the plaintext's place", all(opened, PLAIN_LEN, 0) && all(opened + PLAIN_LEN, LATER, FILL));
-        CHECK("zeros in the scratch", all(scratch, PLAIN_LEN, 0) && all(scratch + PLAIN_LEN, LATER, FILL));
+        CHECK_OPENING("open a damaged record",
+                      kinphlor_open_nullable(key, key_len, header, header_len, ad_len, nonce_len, sealed, SEALED_LEN, opened,
+                                             sizeof opened, scratch, sizeof scratch),
+                      KINPHLOR_FORGED, 0);
         sealed[i] ^= 0x40;
+    }
+}
+
+/* The record opened under the first so many bytes of the ring. */
+static uint64_t open_ring(size_t key_len, size_t ring_len) {
+    return kinphlor_open_ring_nullable(key_len, ring, ring_len, header, 16, 0, 16, sealed, SEALED_LEN, opened,
+                                       sizeof opened, scratch, sizeof scratch);
+}
+
+/* A record sealed under the key of each slot; opened under rings that have this slot, and under rings that have not. */
+static void rings(size_t key_len) {
+    uint32_t slot, count;
+
+    for (slot = 0; slot <= KINPHLOR_RING_MAX; slot++) {
+        CHECK_RESULT("seal", kinphlor_seal(ring + slot * key_len, key_len, header, 16, 0, 16, plain, PLAIN_LEN, sealed,
+                                           sizeof sealed, scratch, sizeof scratch),
+                     KINPHLOR_OK, SEALED_LEN);
+        for (count = 1; count <= KINPHLOR_RING_MAX; count++) {
+            if (slot < count) {
+                CHECK_OPENING("open under a ring", open_ring(key_len, count * key_len), KINPHLOR_OK, slot);
+            } else {
+                CHECK_OPENING("no key of the ring opens", open_ring(key_len, count * key_len), KINPHLOR_FORGED, 0);
+            }
+            CHECK_OPENING("a byte too many", open_ring(key_len, count * key_len + 1), KINPHLOR_RING_LENGTH, 0);
+        }
+        CHECK_OPENING("five keys", open_ring(key_len, 5 * key_len), KINPHLOR_RING_LENGTH, 0);
+        CHECK_OPENING("keys of no length", open_ring(key_len - 1, 2 * (key_len - 1)), KINPHLOR_KEY_LENGTH, 0);
     }
 }
 
@@ -116,24 +156,59 @@ static void nulls(void) {
                  KINPHLOR_OK, 0);
 }
 
+/* The same for a ring of two keys, the second of which opens. */
+static void ring_nulls(void) {
+    uint8_t tag[KINPHLOR_TAG_LEN];
+
+    CHECK_RESULT("seal an empty plaintext",
+                 kinphlor_seal_nullable(ring + 32, 32, header, 16, 0, 16, NULL, 0, tag, sizeof tag, scratch,
+                                        sizeof scratch),
+                 KINPHLOR_OK, KINPHLOR_TAG_LEN);
+    CHECK_RESULT("no key length", kinphlor_open_ring_nullable(0, NULL, 0, NULL, 0, 0, 0, NULL, 0, NULL, 0, NULL, 0),
+                 KINPHLOR_KEY_LENGTH, 0);
+    CHECK_RESULT("no ring", kinphlor_open_ring_nullable(32, NULL, 0, NULL, 0, 0, 0, NULL, 0, NULL, 0, NULL, 0),
+                 KINPHLOR_RING_LENGTH, 0);
+    CHECK_RESULT("no header", kinphlor_open_ring_nullable(32, ring, 64, NULL, 0, 0, 0, NULL, 0, NULL, 0, NULL, 0),
+                 KINPHLOR_EMPTY_NONCE, 0);
+    CHECK_RESULT("no header but lengths",
+                 kinphlor_open_ring_nullable(32, ring, 64, NULL, 0, 0, 16, NULL, 0, NULL, 0, NULL, 0),
+                 KINPHLOR_HEADER_LENGTHS, 0);
+    CHECK_RESULT("no sealed record",
+                 kinphlor_open_ring_nullable(32, ring, 64, header, 16, 0, 16, NULL, 0, NULL, 0, NULL, 0),
+                 KINPHLOR_SEALED_LENGTH, 0);
+    CHECK_RESULT("no output",
+                 kinphlor_open_ring_nullable(32, ring, 64, header, 16, 0, 16, sealed, SEALED_LEN, NULL, 0, NULL, 0),
+                 KINPHLOR_OUTPUT_SHORT, 0);
+    CHECK_RESULT("no scratch",
+                 kinphlor_open_ring_nullable(32, ring, 64, header, 16, 0, 16, tag, sizeof tag, NULL, 0, NULL, 0),
+                 KINPHLOR_SCRATCH_SHORT, 0);
+    check_result("no output for an empty plaintext",
+                 kinphlor_open_ring_nullable(32, ring, 64, header, 16, 0, 16, tag, sizeof tag, NULL, 0, scratch,
+                                             sizeof scratch),
+                 KINPHLOR_OK, 1, 0, __LINE__);
+}
+
 /* The numbers are those of the table, and each has a text of its own. */
 static void texts(void) {
     static const uint32_t numbers[] = {KINPHLOR_OK,             KINPHLOR_KEY_LENGTH,    KINPHLOR_HEADER_COUNT,
                                        KINPHLOR_HEADER_LENGTHS, KINPHLOR_TOO_LONG,      KINPHLOR_SEALED_LENGTH,
                                        KINPHLOR_OUTPUT_SHORT,   KINPHLOR_SCRATCH_SHORT, KINPHLOR_FORGED,
-                                       KINPHLOR_STATE,          KINPHLOR_EMPTY_NONCE};
+                                       KINPHLOR_STATE,          KINPHLOR_EMPTY_NONCE,   KINPHLOR_RING_LENGTH};
     const uint32_t count = sizeof numbers / sizeof numbers[0];
     uint32_t i, j;
 
     for (i = 0; i < count; i++) {
-        CHECK("numbers 0 to 10 in order", numbers[i] == i);
+        CHECK("numbers 0 to 11 in order", numbers[i] == i);
         CHECK("a text", kinphlor_text(i) != NULL && kinphlor_text(i)[0] != 0);
         for (j = i + 1; j <= count; j++) {
             CHECK("no text twice", strcmp(kinphlor_text(i), kinphlor_text(j)) != 0);
         }
     }
-    CHECK("a number apart from its length", kinphlor_number(((uint64_t)8 << 32) + 0xffffffffu) == 8);
-    CHECK("a length apart from its number", kinphlor_length(((uint64_t)8 << 32) + 0xffffffffu) == 0xffffffffu);
+    CHECK("a number apart from the rest", kinphlor_number(((uint64_t)8 << 32) + 0xffffffffu) == 8);
+    CHECK("a slot apart from the rest", kinphlor_slot(((uint64_t)8 << 32) + 0x3fffffffu) == 3);
+    CHECK("a length apart from the rest", kinphlor_length(((uint64_t)8 << 32) + 0xf0123456u) == 0x123456u);
+    CHECK("the longest length", kinphlor_length(KINPHLOR_LIMIT + KINPHLOR_TAG_LEN) == 1048592u);
+    CHECK("the largest slot", kinphlor_slot((uint64_t)(KINPHLOR_RING_MAX - 1) << 28) == 3);
     CHECK("scratch", kinphlor_scratch_len(0) == 16 && kinphlor_scratch_len(16) == 16 && kinphlor_scratch_len(17) == 17);
 }
 
@@ -142,14 +217,17 @@ int main(void) {
     size_t key_len;
 
     for (i = 0; i < sizeof key; i++) key[i] = (uint8_t)(3 * i + 1);
+    for (i = 0; i < sizeof ring; i++) ring[i] = (uint8_t)(3 * i + i / 64);
     for (i = 0; i < sizeof header; i++) header[i] = (uint8_t)(0xf0 - i);
     for (i = 0; i < sizeof plain; i++) plain[i] = (uint8_t)(5 * i);
 
     for (key_len = 32; key_len <= 64; key_len += 16) {
         record(key_len, 0, 16);
         record(key_len, 20, 12);
+        rings(key_len);
     }
     nulls();
+    ring_nulls();
     texts();
     printf("c: %u checks passed\n", checks);
     return 0;
