@@ -1,6 +1,5 @@
 //! The table of answers for both begins, and the state that each hands back.
 
-use crate::context::Context;
 use crate::fields::Fields;
 use crate::headers;
 use crate::model::Model;
@@ -9,6 +8,7 @@ use crate::state::{State, LEN};
 use crate::Pieces;
 use shared::answers::Lens;
 use shared::check;
+use shared::context::Context;
 use shared::library::{KEY_LENS, TAG_LEN};
 use shared::table::{choices, Together};
 use shared::whole::Header;

@@ -1,9 +1,9 @@
 //! The state that stands where the model is, field by field as document 01 has them, with libcrypto's AES.
 
 use crate::aes;
-use crate::context::{Context, Peers};
 use crate::model::Model;
 use crate::state::{tail_len, Field, State};
+use shared::context::{Context, Peers};
 use shared::mac::Mac;
 
 pub struct Fields<'a> {

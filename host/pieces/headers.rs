@@ -1,13 +1,13 @@
 //! Whole calls with header lists: of 0 to 126 strings, held against libgcrypt, libcrypto and the model of steps; and of any
 //! form, held against the table of answers.
 
-use crate::context::{Context, Peers};
 use crate::fields::Fields;
 use crate::model::Model;
 use crate::steps;
 use crate::Pieces;
 use shared::answers::{Calls, Lens};
 use shared::check;
+use shared::context::{Context, Peers};
 use shared::lent::Lent;
 use shared::library::{Function, KEY_LENS, LIMIT, TAG_LEN};
 use shared::peers::Peer;

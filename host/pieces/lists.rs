@@ -2,7 +2,6 @@
 //! the limit, outputs long enough or not. Answers, output bytes and states are held against the model after every call.
 
 use crate::call::{Call, Kind};
-use crate::context::{Context, Peers};
 use crate::fields::Fields;
 use crate::model::Model;
 use crate::probe;
@@ -10,6 +9,7 @@ use crate::state::{Field, State, LEN};
 use crate::Pieces;
 use shared::check;
 use shared::chosen;
+use shared::context::{Context, Peers};
 use shared::lent::Lent;
 use shared::library::{KEY_LENS, LIMIT, TAG_LEN};
 use shared::mac::Block;

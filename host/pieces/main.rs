@@ -5,7 +5,6 @@
 mod aes;
 mod begins;
 mod call;
-mod context;
 mod counter;
 mod fields;
 mod headers;
@@ -16,9 +15,8 @@ mod spoiled;
 mod state;
 mod steps;
 
-use context::Peers;
+use shared::context::Peers;
 use shared::library::LIMIT;
-use shared::peers::{Libcrypto, Libgcrypt};
 use shared::random::Random;
 use shared::{check, parts};
 
@@ -32,8 +30,7 @@ struct Pieces {
 
 impl Pieces {
     fn new(seed: u64) -> Pieces {
-        let peers = Peers { libcrypto: Libcrypto::new(), libgcrypt: Libgcrypt::new() };
-        Pieces { peers, seed, random: Random(seed), noise: Random(0).bytes(LIMIT + 4096) }
+        Pieces { peers: Peers::new(), seed, random: Random(seed), noise: Random(0).bytes(LIMIT + 4096) }
     }
 }
 

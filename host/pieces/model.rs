@@ -2,8 +2,8 @@
 //! begin and of the calls, and no state, and has tags, openings and AES from the peers.
 
 use crate::call::{Call, Kind};
-use crate::context::{Context, Peers};
 use crate::counter;
+use shared::context::{Context, Peers};
 use shared::library::{LIMIT, TAG_LEN};
 use shared::mac::Block;
 use shared::probe::Answer;

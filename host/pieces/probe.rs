@@ -1,9 +1,9 @@
 //! The piecewise calls of libprobe.a as safe Rust.
 
 use crate::call::{Call, Kind};
-use crate::context::Context;
 use crate::state::{State, LEN};
 use shared::check;
+use shared::context::Context;
 use shared::library::TAG_LEN;
 use shared::probe::{answer, Answer};
 use shared::whole::Header;

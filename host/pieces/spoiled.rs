@@ -2,12 +2,12 @@
 //! that the table of answers for piecewise calls.
 
 use crate::call::{Call, Kind};
-use crate::context::{Context, Peers};
 use crate::probe;
 use crate::state::{Field, State};
 use crate::steps::{self, Case, REASONS};
 use crate::Pieces;
 use shared::check;
+use shared::context::{Context, Peers};
 use shared::lent::Lent;
 use shared::library::{KEY_LENS, LIMIT, TAG_LEN};
 use shared::random::Random;

@@ -3,6 +3,7 @@
 pub mod answers;
 pub mod check;
 pub mod chosen;
+pub mod context;
 pub mod lent;
 pub mod library;
 pub mod mac;

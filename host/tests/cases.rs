@@ -3,8 +3,9 @@
 use shared::answers::{Calls, Lens};
 use shared::check;
 use shared::chosen;
+use shared::context::Peers;
 use shared::library::{Args, Function, KEY_LENS, LIMIT, TAG_LEN};
-use shared::peers::{Libcrypto, Libgcrypt, Peer};
+use shared::peers::Peer;
 use shared::random::Random;
 use shared::whole::{self, Given, Header, Room, Want};
 use std::collections::BTreeSet;
@@ -89,24 +90,18 @@ const DAMAGES: [(&str, fn(&mut Record, &mut Random) -> bool); 9] = [
 ];
 
 pub struct Cases {
-    pub libcrypto: Libcrypto,
-    pub libgcrypt: Libgcrypt,
+    pub peers: Peers,
     pub random: Random,
 }
 
 impl Cases {
-    /// The peers that take a plaintext of n bytes; one at least.
-    fn peers(&self, n: usize) -> impl Iterator<Item = &dyn Peer> {
-        [&self.libcrypto as &dyn Peer, &self.libgcrypt].into_iter().filter(move |peer| peer.takes(n))
-    }
-
     /// RFC 5297, appendix A, by the peers: they are called as they should be.
     pub fn peers_have_the_rfcs_examples(&mut self) {
         for (key, header, plain, sealed) in RFC5297_APPENDIX_A {
             let (key, plain, sealed) = (unhex(key), unhex(plain), unhex(sealed));
             let strings: Vec<Vec<u8>> = header.iter().map(|s| unhex(s)).collect();
             let header: Vec<&[u8]> = strings.iter().map(|s| &s[..]).collect();
-            for peer in self.peers(plain.len()) {
+            for peer in self.peers.taking(plain.len()) {
                 check::bytes(|| format!("{} on RFC 5297, A", peer.name()), &sealed, &peer.seal(&key, &header, &plain));
                 check::holds(
                     || format!("{} does not open RFC 5297, A", peer.name()),
@@ -119,11 +114,11 @@ impl Cases {
     /// Sealed as the peers seal it, in memory just large enough and larger; opened here and by the peers.
     fn compare(&mut self, record: &Record) -> Record {
         let n = record.text.len();
-        let sealed = self.libgcrypt.seal(&record.key, &record.header(), &record.text);
+        let sealed = self.peers.libgcrypt.seal(&record.key, &record.header(), &record.text);
         let more = 1 + self.random.below(40);
         let by_us = record.with_text(&record.run(Seal, 0, Want::Written(&sealed)));
         record.run(Seal, more, Want::Written(&sealed));
-        for peer in self.peers(n) {
+        for peer in self.peers.taking(n) {
             let what = |does| format!("{} {does} {n} bytes, key {}", peer.name(), record.key.len());
             let by_peer = record.with_text(&peer.seal(&record.key, &record.header(), &record.text));
             check::bytes(|| what("seals"), &by_us.text, &by_peer.text);
@@ -148,7 +143,7 @@ impl Cases {
 
     fn forged(&self, forged: &Record, more: usize, what: &str) {
         forged.run(Open, more, Want::Forged);
-        for peer in self.peers(forged.text.len() - TAG_LEN) {
+        for peer in self.peers.taking(forged.text.len() - TAG_LEN) {
             let opened = peer.open(&forged.key, &forged.header(), &forged.text);
             check::holds(|| format!("{} opens a record with damage: {what}", peer.name()), opened.is_none());
         }
@@ -199,7 +194,7 @@ impl Cases {
                 self.forged(&forged, 0, "one bit");
                 if bit < 8 * TAG_LEN {
                     let tag = forged.text[..TAG_LEN].try_into().unwrap();
-                    let text = chosen::sealed_under(&self.libcrypto, &record.key, &tag, &record.text);
+                    let text = chosen::sealed_under(&self.peers.libcrypto, &record.key, &tag, &record.text);
                     self.forged(&record.with_text(&text), 0, "one bit of the tag before enciphering");
                 }
             }
@@ -214,7 +209,7 @@ impl Cases {
             for end in [[0x3a, 0x10], [0xff, 0xfe], [0xff, 0xff]] {
                 let found = (0..1 << 22).any(|_| {
                     record.nonce = self.random.bytes(12);
-                    self.libgcrypt.seal(&record.key, &record.header(), &record.text)[..TAG_LEN].ends_with(&end)
+                    self.peers.libgcrypt.seal(&record.key, &record.header(), &record.text)[..TAG_LEN].ends_with(&end)
                 });
                 check::holds(|| format!("no nonce gives a tag that ends in {}", check::hex(&end)), found);
                 let sealed = self.compare(&record);
@@ -236,7 +231,7 @@ impl Cases {
                     let mut record = Record::random(&mut random, key_len, 20, 12, n);
                     let tag = chosen::tag(&mut random, &end);
                     let text = record.text.clone();
-                    record.text = chosen::plaintext(&self.libcrypto, &record.key, &record.header(), &tag, text);
+                    record.text = chosen::plaintext(&self.peers.libcrypto, &record.key, &record.header(), &tag, text);
                     let sealed = self.compare(&record);
                     check::bytes(|| format!("the tag chosen for {n} bytes"), &tag, &sealed.text[..TAG_LEN]);
                 }
@@ -247,7 +242,7 @@ impl Cases {
     /// The table of answers: every case with at most three things out of the ordinary.
     pub fn answers(&mut self) {
         let lists = HEADER_LENS.map(|(ad_len, nonce_len, header_len)| -> Lens { (vec![ad_len, nonce_len], header_len) });
-        Calls { make: call, lists: &lists, without: 2 }.check(&self.libgcrypt, &mut self.random, 3);
+        Calls { make: call, lists: &lists, without: 2 }.check(&self.peers.libgcrypt, &mut self.random, 3);
     }
 }
 

@@ -3,12 +3,12 @@
 mod cases;
 
 use cases::Cases;
-use shared::{parts, peers, random};
+use shared::context::Peers;
+use shared::{parts, random};
 
 fn main() {
     let mut cases = Cases {
-        libcrypto: peers::Libcrypto::new(),
-        libgcrypt: peers::Libgcrypt::new(),
+        peers: Peers::new(),
         random: random::Random(parts::seed("host")),
     };
     parts::run("host", &mut cases, &[

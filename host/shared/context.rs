@@ -1,8 +1,8 @@
 //! What a record is sealed under, a key and a header list, and those who seal it.
 
-use shared::peers::{Libcrypto, Libgcrypt, Peer};
-use shared::random::Random;
-use shared::whole::{Given, Header};
+use crate::peers::{Libcrypto, Libgcrypt, Peer};
+use crate::random::Random;
+use crate::whole::{Given, Header};
 
 #[derive(Clone)]
 pub struct Context {
@@ -35,12 +35,22 @@ pub struct Peers {
     pub libgcrypt: Libgcrypt,
 }
 
-/// By libgcrypt: it takes every plaintext, and every header list of up to 126 strings, empty ones too.
 impl Peers {
+    pub fn new() -> Peers {
+        Peers { libcrypto: Libcrypto::new(), libgcrypt: Libgcrypt::new() }
+    }
+
+    /// Those that take a plaintext of n bytes; one at least.
+    pub fn taking(&self, n: usize) -> impl Iterator<Item = &dyn Peer> {
+        [&self.libcrypto as &dyn Peer, &self.libgcrypt].into_iter().filter(move |peer| peer.takes(n))
+    }
+
+    /// By libgcrypt: it takes every plaintext, and every header list of up to 126 strings, empty ones too.
     pub fn seal(&self, context: &Context, plain: &[u8]) -> Vec<u8> {
         self.libgcrypt.seal(&context.key, &context.strings(), plain)
     }
 
+    /// By libgcrypt as well.
     pub fn open(&self, context: &Context, sealed: &[u8]) -> Option<Vec<u8>> {
         self.libgcrypt.open(&context.key, &context.strings(), sealed)
     }
