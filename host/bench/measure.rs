@@ -104,13 +104,13 @@ impl Call<'_> {
                     nonce_len: NONCE_LEN as u32,
                     input: self.input,
                 };
-                function.call(&args, &mut self.output, &mut self.scratch) == (0, self.output.len() as u64)
+                function.call(&args, &mut self.output, &mut self.scratch) == (0, 0, self.output.len() as u64)
             }
             (Some(peer), Seal) => {
                 peer.seal_to(self.key, &self.header, self.input, &mut self.output);
                 true
             }
-            (Some(peer), Open) => peer.open_to(self.key, &self.header, self.input, &mut self.output),
+            (Some(peer), _) => peer.open_to(self.key, &self.header, self.input, &mut self.output),
         };
         if !done {
             fail("a call that is timed was refused".to_string());

@@ -67,11 +67,11 @@ fn ratios(function: Function, given: &Given, want: &[u8]) -> [f64; 3] {
     let mut output = vec![0; want.len()];
     let mut scratch = vec![0; function.scratch_need(given.input.len())];
     let mut run = |which: usize| {
-        let answer = match which {
-            0 => probe::whole(function, given, &mut output, &mut scratch),
-            _ => probe::by_pieces(function, given, PIECES[which - 1], &mut output),
+        let number = match which {
+            0 => probe::whole(function, given, &mut output, &mut scratch).0,
+            _ => probe::by_pieces(function, given, PIECES[which - 1], &mut output).0,
         };
-        check::holds(|| format!("{function:?}, way {which}: {answer:?}"), answer.0 == 0 && output == want);
+        check::holds(|| format!("{function:?}, way {which}: {number}"), number == 0 && output == want);
     };
     for which in 0..=PIECES.len() {
         run(which);

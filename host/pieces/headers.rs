@@ -1,5 +1,5 @@
-//! Whole calls with header lists: of 0 to 126 strings, held against libgcrypt, libcrypto and the model of steps; and of any
-//! form, held against the table of answers.
+//! Whole calls with header lists: of 0 to 126 strings, held against libgcrypt, libcrypto and the model of steps, under one
+//! key and under rings; and of any form, held against the table of answers.
 
 use crate::fields::Fields;
 use crate::model::Model;
@@ -13,6 +13,7 @@ use shared::library::{Function, KEY_LENS, LIMIT, TAG_LEN};
 use shared::peers::Peer;
 use shared::probe;
 use shared::random::Random;
+use shared::ring::Rings;
 use shared::whole::{self, Room, Want};
 use Function::{Open, Seal};
 
@@ -162,4 +163,20 @@ pub fn lists() -> Vec<Lens> {
 /// The table of answers for whole calls: every case with at most two things out of the ordinary.
 pub fn answers(Pieces { peers, random, .. }: &mut Pieces) {
     Calls { make: probe::whole, lists: &lists(), without: 10 }.check(&peers.libgcrypt, random, 2);
+}
+
+/// Rings with lists of no string, of one, of two, and of as many as there may be.
+fn rings() -> Rings {
+    let lists = vec![vec![], vec![0], vec![33], vec![20, 12], vec![0, 1], vec![0; 126], vec![17; 126]];
+    Rings { make: probe::whole, lists }
+}
+
+/// The record's key at every set of a ring's slots.
+pub fn ring_slots(Pieces { peers, random, .. }: &mut Pieces) {
+    rings().slots(peers, random);
+}
+
+/// Buffers that are rings, and that are none.
+pub fn ring_buffers(Pieces { peers, random, .. }: &mut Pieces) {
+    rings().buffers(peers, random);
 }

@@ -42,6 +42,8 @@ fn main() {
     parts::run("pieces", &mut Pieces::new(parts::seed("pieces")), &[
         ("header lists of 0 to 126 strings", headers::counts),
         ("the table of answers for whole calls", headers::answers),
+        ("rings with a record's key at any slots", headers::ring_slots),
+        ("ring buffers of every length", headers::ring_buffers),
         ("the table of answers for begins", begins::run),
         ("every call on good and spoiled states", spoiled::run),
         ("lists of calls beside the model", lists::run),

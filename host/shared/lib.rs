@@ -11,5 +11,6 @@ pub mod parts;
 pub mod peers;
 pub mod probe;
 pub mod random;
+pub mod ring;
 pub mod table;
 pub mod whole;

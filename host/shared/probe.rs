@@ -1,6 +1,7 @@
 //! The whole calls of libprobe.a, with any header list, and a whole string by pieces, as safe Rust.
 
-use crate::library::Function;
+use crate::check::fail;
+use crate::library::{self, Function};
 use crate::whole::{Given, Header};
 
 #[rustfmt::skip]
@@ -9,13 +10,16 @@ unsafe extern "C" {
         input: *const u8, input_len: usize, output: *mut u8, output_len: usize, scratch: *mut u8, scratch_len: usize) -> u64;
     fn probe_open(key: *const u8, key_len: usize, header: *const u8, header_len: usize, lens: *const u32, lens_len: usize,
         input: *const u8, input_len: usize, output: *mut u8, output_len: usize, scratch: *mut u8, scratch_len: usize) -> u64;
+    fn probe_open_ring(key_len: usize, ring: *const u8, ring_len: usize, header: *const u8, header_len: usize,
+        lens: *const u32, lens_len: usize, input: *const u8, input_len: usize, output: *mut u8, output_len: usize,
+        scratch: *mut u8, scratch_len: usize, slot: *mut u8, slot_len: usize) -> u64;
     fn probe_seal_pieces(key: *const u8, key_len: usize, header: *const u8, header_len: usize, lens: *const u32,
         lens_len: usize, input: *const u8, input_len: usize, n: usize, output: *mut u8, output_len: usize) -> u64;
     fn probe_open_pieces(key: *const u8, key_len: usize, header: *const u8, header_len: usize, lens: *const u32,
         lens_len: usize, input: *const u8, input_len: usize, n: usize, output: *mut u8, output_len: usize) -> u64;
 }
 
-/// A number and a length.
+/// A piecewise call's number and length.
 pub type Answer = (u64, u64);
 
 pub fn answer(result: u64) -> Answer {
@@ -25,18 +29,34 @@ pub fn answer(result: u64) -> Answer {
 // In all that follows slices are valid for their lengths, never null, and those that are written overlap no other.
 
 /// A whole call.
-pub fn whole(function: Function, given: &Given, output: &mut [u8], scratch: &mut [u8]) -> Answer {
+pub fn whole(function: Function, given: &Given, output: &mut [u8], scratch: &mut [u8]) -> library::Answer {
     let raw = match function {
         Function::Seal => probe_seal,
         Function::Open => probe_open,
+        Function::OpenRing(key_len) => return open_ring(key_len, given, output, scratch),
     };
     let Given { key, header: Header { bytes, lens }, input } = *given;
-    answer(unsafe {
+    let (number, length) = answer(unsafe {
         raw(
             key.as_ptr(), key.len(), bytes.as_ptr(), bytes.len(), lens.as_ptr(), lens.len(), input.as_ptr(), input.len(),
             output.as_mut_ptr(), output.len(), scratch.as_mut_ptr(), scratch.len(),
         )
-    })
+    });
+    (number, 0, length)
+}
+
+/// The slot comes through a byte of its own.
+fn open_ring(key_len: usize, given: &Given, output: &mut [u8], scratch: &mut [u8]) -> library::Answer {
+    let Given { key: ring, header: Header { bytes, lens }, input } = *given;
+    let mut slot = [0xff];
+    let (number, length) = answer(unsafe {
+        probe_open_ring(
+            key_len, ring.as_ptr(), ring.len(), bytes.as_ptr(), bytes.len(), lens.as_ptr(), lens.len(),
+            input.as_ptr(), input.len(), output.as_mut_ptr(), output.len(), scratch.as_mut_ptr(), scratch.len(),
+            slot.as_mut_ptr(), slot.len(),
+        )
+    });
+    (number, slot[0] as u64, length)
 }
 
 /// A whole string by pieces of n bytes.
@@ -44,6 +64,7 @@ pub fn by_pieces(function: Function, given: &Given, n: usize, output: &mut [u8])
     let raw = match function {
         Function::Seal => probe_seal_pieces,
         Function::Open => probe_open_pieces,
+        Function::OpenRing(_) => fail("no ring opens by pieces".to_string()),
     };
     let Given { key, header: Header { bytes, lens }, input } = *given;
     answer(unsafe {

@@ -2,8 +2,10 @@
 
 use crate::check;
 use crate::lent::Lent;
-use crate::library::Function;
+use crate::library::{Answer, Function};
+use crate::ring;
 use std::fmt;
+use Function::{Open, OpenRing};
 
 /// A header list as calls take it: the strings joined, and their lengths.
 #[derive(Clone, Copy)]
@@ -33,7 +35,7 @@ impl fmt::Display for Header<'_> {
     }
 }
 
-/// What a call reads.
+/// What a call reads; a ring stands in the key's place.
 #[derive(Clone, Copy)]
 pub struct Given<'a> {
     pub key: &'a [u8],
@@ -41,8 +43,8 @@ pub struct Given<'a> {
     pub input: &'a [u8],
 }
 
-/// Makes a whole call with an output and a scratch; gives the answer's number and length.
-pub type Maker = fn(Function, &Given, &mut [u8], &mut [u8]) -> (u64, u64);
+/// Makes a whole call with an output and a scratch.
+pub type Maker = fn(Function, &Given, &mut [u8], &mut [u8]) -> Answer;
 
 /// Lengths of the memory lent for writing.
 #[derive(Clone, Copy)]
@@ -58,30 +60,47 @@ impl Room {
 }
 
 /// What a call must do.
+#[derive(Clone, Copy)]
 pub enum Want<'a> {
     Written(&'a [u8]),
+    /// Written after a slot's key opened.
+    Opened(usize, &'a [u8]),
     Refused(u64),
     Forged,
 }
 
-/// One call: its number, its length and every byte of the lent memory. Gives what is at the front of the output.
+/// One call: its answer and every byte of the lent memory. Gives what is at the front of the output. What opens or is
+/// refused under a key is so under a ring of this one key, and of it among strangers.
 pub fn run(make: Maker, function: Function, given: &Given, room: Room, want: Want) -> Vec<u8> {
+    if function == Open {
+        let function = OpenRing(given.key.len());
+        run_once(make, function, given, room, want);
+        let (ring, slot) = ring::around(given.key);
+        let want = if let Want::Written(bytes) = want { Want::Opened(slot, bytes) } else { want };
+        run_once(make, function, &Given { key: &ring, ..*given }, room, want);
+    }
+    run_once(make, function, given, room, want)
+}
+
+fn run_once(make: Maker, function: Function, given: &Given, room: Room, want: Want) -> Vec<u8> {
     let input_len = given.input.len();
+    let written = |slot, bytes: &[u8]| ((0, slot, bytes.len() as u64), bytes.to_vec(), function.scratch_need(input_len));
     let (answer, front, wiped) = match want {
-        Want::Written(bytes) => ((0, bytes.len() as u64), bytes.to_vec(), function.scratch_need(input_len)),
-        Want::Refused(number) => ((number, 0), vec![], 0),
-        Want::Forged => ((8, 0), vec![0; function.plain_len(input_len)], function.scratch_need(input_len)),
+        Want::Written(bytes) => written(0, bytes),
+        Want::Opened(slot, bytes) => written(slot as u64, bytes),
+        Want::Refused(number) => ((number, 0, 0), vec![], 0),
+        Want::Forged => ((8, 0, 0), vec![0; function.plain_len(input_len)], function.scratch_need(input_len)),
     };
     let (mut output, mut scratch) = (Lent::new(room.output), Lent::new(room.scratch));
     let got = make(function, given, output.slice(), scratch.slice());
 
     let call = || {
         format!(
-            "{function:?}, lengths: key {}, header {}, input {input_len}, output {}, scratch {}",
+            "{function:?}, lengths: keys {}, header {}, input {input_len}, output {}, scratch {}",
             given.key.len(), given.header, room.output, room.scratch
         )
     };
-    check::holds(|| format!("{}: expected number and length {answer:?}, got {got:?}", call()), got == answer);
+    check::holds(|| format!("{}: expected number, slot and length {answer:?}, got {got:?}", call()), got == answer);
     output.check(|part| format!("{}: answer {got:?}, output, {part}", call()), &front);
     scratch.check(|part| format!("{}: answer {got:?}, scratch, {part}", call()), &vec![0; wiped]);
     front

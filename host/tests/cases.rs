@@ -4,9 +4,10 @@ use shared::answers::{Calls, Lens};
 use shared::check;
 use shared::chosen;
 use shared::context::Peers;
-use shared::library::{Args, Function, KEY_LENS, LIMIT, TAG_LEN};
+use shared::library::{Answer, Args, Function, KEY_LENS, LIMIT, TAG_LEN};
 use shared::peers::Peer;
 use shared::random::Random;
+use shared::ring::Rings;
 use shared::whole::{self, Given, Header, Room, Want};
 use std::collections::BTreeSet;
 use Function::{Open, Seal};
@@ -51,10 +52,16 @@ impl Record {
 }
 
 /// A call of the archive's: the header is associated data and nonce.
-fn call(function: Function, given: &Given, output: &mut [u8], scratch: &mut [u8]) -> (u64, u64) {
+fn call(function: Function, given: &Given, output: &mut [u8], scratch: &mut [u8]) -> Answer {
     let Given { key, header, input } = *given;
     let args = Args { key, header: header.bytes, ad_len: header.lens[0], nonce_len: header.lens[1], input };
     function.call(&args, output, scratch)
+}
+
+/// Rings at the archive's interface, with every header.
+fn rings() -> Rings {
+    let lists = AD_LENS.iter().flat_map(|&ad| NONCE_LENS.map(|nonce| vec![ad as u32, nonce as u32])).collect();
+    Rings { make: call, lists }
 }
 
 /// Ways to damage a sealed record. One that has nothing to damage says so with false.
@@ -237,6 +244,16 @@ impl Cases {
                 }
             }
         }
+    }
+
+    /// The record's key at every set of a ring's slots.
+    pub fn ring_slots(&mut self) {
+        rings().slots(&self.peers, &mut self.random);
+    }
+
+    /// Buffers that are rings, and that are none.
+    pub fn ring_buffers(&mut self) {
+        rings().buffers(&self.peers, &mut self.random);
     }
 
     /// The table of answers: every case with at most three things out of the ordinary.

@@ -16,6 +16,8 @@ fn main() {
         ("the table of answers", Cases::answers),
         ("every length, header and key width", Cases::lengths),
         ("every bit of a record damaged", Cases::every_bit),
+        ("rings with a record's key at any slots", Cases::ring_slots),
+        ("ring buffers of every length", Cases::ring_buffers),
         ("tags searched by their end", Cases::searched_tags),
         ("tags chosen by where the counter carries", Cases::chosen_tags),
     ]);
