@@ -52,7 +52,7 @@ module _ (key bytes lens y output scratch : List ℕ) where
   by-tag j = first-pass rows forgery refl j
 
   -- a number of 0 passed the judgement
-  judged-zero : openNumber key bytes lens y output scratch ≡ 0 → openJudged key bytes lens y output scratch ≡ 0
+  pub judged-zero : openNumber key bytes lens y output scratch ≡ 0 → openJudged key bytes lens y output scratch ≡ 0
   unfolding openNumber rows forgery
   judged-zero e = first-none rows forgery refl e .0
 

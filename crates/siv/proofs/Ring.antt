@@ -1,7 +1,7 @@
 -- Laws of a ring of keys.
 -- Assumes nothing.
 use mathlib.Core.Path.{_≡_, refl, ap, sym, _∙_}
-use mathlib.Core.Bool.{Bool, true, false, false≢true, cond, _||_, or-true}
+use mathlib.Core.Bool.{Bool, true, false, not, false≢true, cond, _||_, or-true}
 use mathlib.Core.List.{List}
 use Prim.Native.Nat.{ℕ, zero, suc, _+_, _*_, _≤_, _<_}
 use native.Mathlib.Decide.{ℕ-discrete}
@@ -9,10 +9,12 @@ use native.Mathlib.Nat.{div-eq-of-eq-mul-left, mul-le-mul-right}
 use native.Mathlib.Omega.{arith}
 use lib.Dec.{eqb}
 use lib.ListN.{length}
-use borrow.Author.Tests.{eqb-true, eq-eqb}
+use borrow.Author.Tests.{eqb-true, eq-eqb, not-false}
 use Rattle.octets.proofs.Strings.{length-part}
+use Rattle.siv.specs.Answer.{first}
 use Rattle.siv.specs.Calls.{isKeyLength}
-use Rattle.siv.specs.Ring.{isRing, slots, slotKey, firstSlot}
+use Rattle.siv.specs.Ring.{isRing, slots, slotKey, firstSlot, ringRows}
+use Rattle.siv.proofs.Laws.{not-due}
 
 -- ---- lengths
 
@@ -56,11 +58,25 @@ whole-ring keyLength slots′ n k e some most = (go slots′ e some most, div-eq
     go (suc (suc (suc (suc zero)))) e some most = simp (eq-eqb n (4 * keyLength) e, or-true)
     go (suc (suc (suc (suc (suc s))))) e some most = absurd (omega arith)
 
+-- what the refusals of the stated length and the ring leave
+pub ring-admits : (keyLength n : ℕ) → first (ringRows keyLength n) ≡ 0 → (isKeyLength keyLength ≡ true) × RingWhole keyLength n
+ring-admits keyLength n e =
+    let a = not-due (not (isKeyLength keyLength)) 0 _ e in
+    let b = not-due (not (isRing keyLength n)) 10 0 (a .1) in
+    let keyed = not-false (isKeyLength keyLength) (a .0) in
+    (keyed, ring-whole keyLength n keyed (not-false (isRing keyLength n) (b .0)))
+
 pub slot-within : (i slots′ keyLength : ℕ) → i < slots′ → i * keyLength + keyLength ≤ slots′ * keyLength
 slot-within i slots′ keyLength h = omega (arith, mul-le-mul-right keyLength h)
 
 pub length-slotKey : (keyLength : ℕ) (ring : List ℕ) (i : ℕ) → i * keyLength + keyLength ≤ length ring → length (slotKey keyLength ring i) ≡ keyLength
 length-slotKey keyLength ring i h = length-part ring (i * keyLength) keyLength h
+
+-- the key of a ring's slot is a key
+pub slot-keyed : (keyLength slots′ : ℕ) (ring : List ℕ) (i : ℕ) → isKeyLength keyLength ≡ true → length ring ≡ slots′ * keyLength → i < slots′
+    → isKeyLength (length (slotKey keyLength ring i)) ≡ true
+slot-keyed keyLength slots′ ring i k e h =
+    ap isKeyLength (length-slotKey keyLength ring i (omega (arith, slot-within i slots′ keyLength h))) ∙ k
 
 -- ---- the first slot that passes a test
 
