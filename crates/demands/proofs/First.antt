@@ -26,7 +26,7 @@ use Rattle.stream.specs.State.{ended}
 use Rattle.stream.specs.Steps.{StepResult, doneStep, refusedStep, settle, beginSealer, beginOpener, addStep, turnStep, writeStep, closeStep, feedStep, finishTable, finishStep}
 use Rattle.kinphlor.specs.Interface.{aeadLens, emptyNonce, fromC}
 use Rattle.demands.specs.First.{order, keeps, FirstDue, none, here, later, FirstSeal, FirstOpen, rowsFromC, FirstFromC, noSlot, FirstRing, FirstStep, FirstFinish, First}
-use Rattle.demands.proofs.Parts.{sealing-parts, opening-parts, opening-ring-parts}
+use Rattle.demands.proofs.Parts.{seal-count, open-count, from-c-parts, ring-parts}
 use Rattle.demands.proofs.Slots.{Given, given-within, given-none, given-same, given-noSlot, opensAt, Settled, goes, stops, ring-settles, ring-settles-from-c}
 
 -- `first` takes the first row that is due
@@ -283,9 +283,11 @@ answers-or-first-refusal =
       openingRingFromC = λ keyLength ring header input output scratch ad nonce.
           by-ring keyLength ring header (aeadLens ad nonce) input output scratch (row 10 (eqb nonce 0) ∷ []) refl refl refl
           (ring-settles-from-c keyLength ring header input output scratch ad nonce);
-      sealingParts = sealing-parts;
-      openingParts = opening-parts;
-      openingRingParts = opening-ring-parts;
+      sealingParts = λ key header input output scratch ad nonce. from-c-parts nonce key output scratch _ (seal-count key header (aeadLens ad nonce) input output scratch);
+      openingParts = λ key header input output scratch ad nonce. from-c-parts nonce key output scratch _ (open-count key header (aeadLens ad nonce) input output scratch);
+      openingRingParts = λ keyLength ring header input output scratch ad nonce.
+          ring-parts keyLength ring header (aeadLens ad nonce) input output scratch (row 10 (eqb nonce 0) ∷ [])
+          (ring-settles-from-c keyLength ring header input output scratch ad nonce);
       beginningSealer = λ key bytes lens. by-table _ _ _ _ refl refl;
       beginningOpener = λ key bytes lens tag. by-table _ _ _ _ refl refl;
       adding = λ s piece. by-table _ _ _ _ refl refl;

@@ -4,6 +4,7 @@ pub mod Whole
 pub mod Slots
 pub mod Parts
 pub mod First
+pub mod Ring
 pub mod Pieces
 pub mod Steps
 pub mod Third

@@ -2,31 +2,30 @@
 -- Assumes nothing.
 use mathlib.Core.Path.{_≡_, refl}
 use mathlib.Core.Bool.{Bool, true, false, cond}
-use mathlib.Core.List.{List, [], _∷_, _++_}
+use mathlib.Core.List.{List, _++_}
 use Prim.Native.Nat.{ℕ, _+_, _-_, _*_, _≤_, _<_}
 use native.Mathlib.Omega.{arith}
 use lib.Dec.{eqb}
 use lib.ListN.{length}
 use borrow.Author.Tests.{eqb-true}
-use Rattle.siv.specs.Answer.{row, first}
+use Rattle.siv.specs.Answer.{Row, first}
 use Rattle.siv.specs.Calls.{CallResult, limit, sealNumber, sealCall, openNumber, openCall}
 use Rattle.siv.specs.Ring.{slots, slotKey, ringRows, RingResult}
 use Rattle.siv.proofs.Laws.{first-none, seal-admits, open-admits}
 use Rattle.siv.proofs.Ring.{ring-admits}
-use Rattle.kinphlor.specs.Interface.{aeadLens, packed, emptyNonce, fromC, sealFromC, openFromC, packedRing, openRingFromC}
+use Rattle.kinphlor.specs.Interface.{packed, emptyNonce, fromC, packedRing}
 use Rattle.demands.specs.First.{Parts}
-use Rattle.demands.proofs.Slots.{given-within, opensAt, Settled, goes, stops, ring-settles-from-c}
+use Rattle.demands.proofs.Slots.{given-within, Settled, goes, stops}
 use Rattle.demands.proofs.Whole.{judged-zero}
 
 -- a length below 2 to the power 28 and a slot below 16 stay apart, and clear of the number
 parts : (given number slot count : ℕ) → given ≡ number * 4294967296 + count + slot * 268435456 → slot < 16 → count < 268435456 → Parts given number slot count
 parts given number slot count e s c = record { high = omega arith; middle = omega arith; low = omega arith }
 
--- ---- lengths
+-- ---- no length is above that of the longest sealed string
 
--- no length is above that of the longest sealed string
 module _ (key bytes lens input output scratch : List ℕ) where
-  seal-count : sealCall key bytes lens input output scratch .outcome .count ≤ limit + 16
+  pub seal-count : sealCall key bytes lens input output scratch .outcome .count ≤ limit + 16
   unfolding sealCall
   seal-count = go (eqb (sealNumber key bytes lens input output scratch) 0) refl
     where
@@ -34,7 +33,7 @@ module _ (key bytes lens input output scratch : List ℕ) where
       go true e = omega (arith, seal-admits key bytes lens input output scratch (eqb-true _ 0 e) .limited)
       go false e = omega arith
 
-  open-count : openCall key bytes lens input output scratch .outcome .count ≤ limit + 16
+  pub open-count : openCall key bytes lens input output scratch .outcome .count ≤ limit + 16
   unfolding openCall
   open-count = go (eqb (openNumber key bytes lens input output scratch) 0) refl
     where
@@ -44,7 +43,7 @@ module _ (key bytes lens input output scratch : List ℕ) where
 
 -- ---- the calls of the interface
 
-from-c-parts : (nonce : ℕ) (key output scratch : List ℕ) (call : CallResult) → call .outcome .count ≤ limit + 16
+pub from-c-parts : (nonce : ℕ) (key output scratch : List ℕ) (call : CallResult) → call .outcome .count ≤ limit + 16
     → let o = fromC nonce key output scratch call .outcome in
     Parts (packed o) (o .number) 0 (o .count)
 unfolding fromC
@@ -56,30 +55,11 @@ from-c-parts nonce key output scratch call h =
     go true e = simp e (omega arith)
     go false e = simp e h
 
-pub sealing-parts : (key header input output scratch : List ℕ) (ad nonce : ℕ)
-    → let o = sealFromC key header ad nonce input output scratch .outcome in
-    Parts (packed o) (o .number) 0 (o .count)
-sealing-parts key header input output scratch ad nonce =
-    from-c-parts nonce key output scratch (sealCall key header (aeadLens ad nonce) input output scratch) (seal-count key header (aeadLens ad nonce) input output scratch)
-
-pub opening-parts : (key header input output scratch : List ℕ) (ad nonce : ℕ)
-    → let o = openFromC key header ad nonce input output scratch .outcome in
-    Parts (packed o) (o .number) 0 (o .count)
-opening-parts key header input output scratch ad nonce =
-    from-c-parts nonce key output scratch (openCall key header (aeadLens ad nonce) input output scratch) (open-count key header (aeadLens ad nonce) input output scratch)
-
-pub opening-ring-parts : (keyLength : ℕ) (ring header input output scratch : List ℕ) (ad nonce : ℕ)
-    → let r = openRingFromC keyLength ring header ad nonce input output scratch in
-    Parts (packedRing (r .slot) (r .call .outcome)) (r .call .outcome .number) (r .slot) (r .call .outcome .count)
-opening-ring-parts keyLength ring header input output scratch ad nonce = go (ring-settles-from-c keyLength ring header input output scratch ad nonce)
-  where
-    lens : List ℕ
-    lens = aeadLens ad nonce
-
-    go : {r : RingResult} → Settled keyLength ring header lens input output scratch (first (ringRows keyLength (length ring) ++ (row 10 (eqb nonce 0) ∷ []))) r
-        → Parts (packedRing (r .slot) (r .call .outcome)) (r .call .outcome .number) (r .slot) (r .call .outcome .count)
-    go (goes {s} z g) =
-        let whole = ring-admits keyLength (length ring) (first-none (ringRows keyLength (length ring)) (row 10 (eqb nonce 0) ∷ []) refl z .0) .1 in
-        let within : s < slots keyLength (length ring) = given-within (opensAt keyLength ring header lens input output scratch) (slots keyLength (length ring)) (whole .some) g in
-        parts _ _ s _ refl (omega (arith, whole .most)) (omega (arith, open-count (slotKey keyLength ring s) header lens input output scratch))
-    go (stops z) = parts _ _ 0 0 refl (omega arith) (omega arith)
+pub ring-parts : (keyLength : ℕ) (ring bytes lens input output scratch : List ℕ) (behind : List Row) {r : RingResult}
+    → Settled keyLength ring bytes lens input output scratch (first (ringRows keyLength (length ring) ++ behind)) r
+    → Parts (packedRing (r .slot) (r .call .outcome)) (r .call .outcome .number) (r .slot) (r .call .outcome .count)
+ring-parts keyLength ring bytes lens input output scratch behind (goes {s} z g) =
+    let whole = ring-admits keyLength (length ring) (first-none (ringRows keyLength (length ring)) behind refl z .0) .1 in
+    let within : s < slots keyLength (length ring) = given-within _ (slots keyLength (length ring)) (whole .some) g in
+    parts _ _ s _ refl (omega (arith, whole .most)) (omega (arith, open-count (slotKey keyLength ring s) bytes lens input output scratch))
+ring-parts keyLength ring bytes lens input output scratch behind (stops z) = parts _ _ 0 0 refl (omega arith) (omega arith)
