@@ -43,6 +43,26 @@ pub extern "C" fn probe_open(
     kinphlor::pack(siv::open(key, header, lens, input, output, scratch))
 }
 
+// The slot's number goes to the front of slot.
+#[no_mangle]
+pub extern "C" fn probe_open_ring(
+    key_len: usize,
+    ring: &[u8],
+    header: &[u8],
+    lens: &[u32],
+    input: &[u8],
+    output: &mut [u8],
+    scratch: &mut [u8],
+    slot: &mut [u8],
+) -> u64 {
+    let opened = siv::open_ring(key_len, ring, header, lens, input, output, scratch);
+    let answer = opened.answer;
+    if slot.len() != 0 {
+        slot[0] = (opened.slot & 255) as u8;
+    }
+    kinphlor::pack(answer)
+}
+
 #[no_mangle]
 pub extern "C" fn probe_begin_sealer(
     key: &[u8],

@@ -181,6 +181,15 @@ module _ (key bytes lens input output scratch : List ℕ) where
         scratchy = ltb-false (length scratch) (scratchNeed (length input)) (h .0);
       }
 
+  -- no length is above the longest sealed string's
+  pub seal-count : sealCall key bytes lens input output scratch .outcome .count ≤ limit + 16
+  unfolding sealCall
+  seal-count = go (eqb (sealNumber key bytes lens input output scratch) 0) refl
+    where
+      go : (t : Bool) → eqb (sealNumber key bytes lens input output scratch) 0 ≡ t → cond t (length input + 16) 0 ≤ limit + 16
+      go true e = omega (arith, seal-admits (eqb-true _ 0 e) .limited)
+      go false e = omega arith
+
   pub seal-refused : (answer : Answer) → (outcomeOf answer .number ≡ 0 → ⊥) → outcomeOf answer ≡ withoutLength (sealNumber key bytes lens input output scratch)
       → DidCall (sealCall key bytes lens input output scratch) answer output scratch
   unfolding sealCall
@@ -289,9 +298,9 @@ module _ (key bytes lens input output scratch : List ℕ) where
   stops due = first-stop rows (row 8 (not (genuine key (strings bytes lens) input)) ∷ []) due
 
   -- past the judgement the tag decides
-  passes : openJudged ≡ 0 → number ≡ cond (not (genuine key (strings bytes lens) input)) 8 0
-  unfolding number rows openNumber
-  passes judged = first-pass rows (row 8 (not (genuine key (strings bytes lens) input)) ∷ []) refl judged
+  pub by-tag : openJudged ≡ 0 → openNumber key bytes lens input output scratch ≡ cond (not (genuine key (strings bytes lens) input)) 8 0
+  unfolding rows openNumber
+  by-tag judged = first-pass rows (row 8 (not (genuine key (strings bytes lens) input)) ∷ []) refl judged
 
   not-eight : openJudged ≡ 8 → ⊥
   unfolding rows
@@ -314,11 +323,25 @@ module _ (key bytes lens input output scratch : List ℕ) where
   -- past the judgement the number is 0 where the string is genuine
   pub open-number : openJudged ≡ 0 → eqb (openCall key bytes lens input output scratch .outcome .number) 0 ≡ genuine key (strings bytes lens) input
   unfolding openCall number
-  open-number judged = ap (λ (n : ℕ). eqb n 0) (passes judged) ∙ go (genuine key (strings bytes lens) input)
+  open-number judged = ap (λ (n : ℕ). eqb n 0) (by-tag judged) ∙ go (genuine key (strings bytes lens) input)
     where
       go : (g : Bool) → eqb (cond (not g) 8 0) 0 ≡ g
       go true = refl
       go false = refl
+
+  -- a number of 0 passed the judgement
+  pub open-passed : openNumber key bytes lens input output scratch ≡ 0 → openJudged ≡ 0
+  unfolding number rows openNumber
+  open-passed e = first-none rows (row 8 (not (genuine key (strings bytes lens) input)) ∷ []) refl e .0
+
+  -- no length is above the longest plaintext's
+  pub open-count : openCall key bytes lens input output scratch .outcome .count ≤ limit
+  unfolding openCall
+  open-count = go (eqb (openNumber key bytes lens input output scratch) 0) refl
+    where
+      go : (t : Bool) → eqb (openNumber key bytes lens input output scratch) 0 ≡ t → cond t (length input - 16) 0 ≤ limit
+      go true e = omega (arith, open-admits (open-passed (eqb-true _ 0 e)) .limited)
+      go false e = omega arith
 
   -- and what was read of a genuine string, or zeros, are in the output
   pub open-delivered : (g : Bool) → genuine key (strings bytes lens) input ≡ g → openJudged ≡ 0 → (answer : Answer) (read output′ scratch′ : List ℕ)
@@ -327,8 +350,8 @@ module _ (key bytes lens input output scratch : List ℕ) where
       → DidCall (openCall key bytes lens input output scratch) answer output′ scratch′
   unfolding openCall number
   open-delivered true e judged answer read output′ scratch′ o t p q =
-      let none : number ≡ 0 = passes judged ∙ ap (λ (b : Bool). cond (not b) 8 0) e in
+      let none : number ≡ 0 = by-tag judged ∙ ap (λ (b : Bool). cond (not b) 8 0) e in
       record { outcome = simp none o; output = simp none (p ∙ ap (put output 0) (t refl)); scratch = simp none q }
   open-delivered false e judged answer read output′ scratch′ o t p q =
-      let eight : number ≡ 8 = passes judged ∙ ap (λ (b : Bool). cond (not b) 8 0) e in
+      let eight : number ≡ 8 = by-tag judged ∙ ap (λ (b : Bool). cond (not b) 8 0) e in
       record { outcome = simp eight o; output = simp eight p; scratch = simp eight q }

@@ -4,21 +4,21 @@ use mathlib.Core.Path.{_≡_, refl, ap, sym, subst, _∙_}
 use mathlib.Core.Bool.{Bool, true, false, not, false≢true, cond, _||_, or-true}
 use mathlib.Core.List.{List, _++_}
 use Prim.Native.Nat.{ℕ, zero, suc, _+_, _-_, _*_, _≤_, _<_}
-use native.Mathlib.Decide.{ℕ-discrete}
+use native.Mathlib.Decide.{ℕ-discrete, decLt}
 use native.Mathlib.Nat.{sub-zero, div-eq-of-eq-mul-left, mul-le-mul-right}
 use native.Mathlib.Omega.{arith}
 use lib.Dec.{eqb, ltb}
 use lib.ListN.{length, drop}
-use borrow.Author.Tests.{eqb-true, eq-eqb, ne-eqb, not-false, ltb-true}
+use borrow.Author.Tests.{eqb-true, eqb-false, eq-eqb, ne-eqb, not-false, ltb-true, ltb-false}
 use Rattle.octets.proofs.Strings.{length-part}
 use Rattle.header.specs.Header.{strings}
 use Rattle.siv.specs.declared.Answer.{Answer}
 use Rattle.siv.specs.declared.RingAnswer.{RingAnswer}
 use Rattle.siv.specs.Answer.{Outcome, Row, first, outcomeOf, withoutLength}
-use Rattle.siv.specs.Calls.{isKeyLength, headerRows, openRows, DidCall}
+use Rattle.siv.specs.Calls.{isKeyLength, limit, headerRows, openRows, DidCall}
 use Rattle.siv.specs.Ring.{isRing, slots, slotKey, firstSlot, ringRows, RingResult, refusedRing, DidRing, openSlot, openRing}
 use Rattle.siv.specs.Siv.{genuine}
-use Rattle.siv.proofs.Laws.{first-none, first-pass, first-stop, not-due, openJudged, open-due, open-number, open-refused}
+use Rattle.siv.proofs.Laws.{first-none, first-pass, first-stop, not-due, openJudged, open-due, open-count, open-number, open-refused}
 
 -- ---- lengths
 
@@ -70,29 +70,27 @@ no-ring keyLength n k h = go (isRing keyLength n) refl
     go true e = absurd (h (ring-whole keyLength n k e))
     go false e = e
 
+-- what the refusals of the stated length and the ring leave
+pub ring-admits : (keyLength n : ℕ) → first (ringRows keyLength n) ≡ 0 → (isKeyLength keyLength ≡ true) × RingWhole keyLength n
+ring-admits keyLength n e =
+    let a = not-due (not (isKeyLength keyLength)) 0 _ e in
+    let b = not-due (not (isRing keyLength n)) 10 0 (a .1) in
+    let keyed = not-false (isKeyLength keyLength) (a .0) in
+    (keyed, ring-whole keyLength n (key-length-some keyLength keyed) (not-false (isRing keyLength n) (b .0)))
+
 pub slot-within : (i slots′ keyLength : ℕ) → i < slots′ → i * keyLength + keyLength ≤ slots′ * keyLength
 slot-within i slots′ keyLength h = omega (arith, mul-le-mul-right keyLength h)
 
 pub length-slotKey : (keyLength : ℕ) (ring : List ℕ) (i : ℕ) → i * keyLength + keyLength ≤ length ring → length (slotKey keyLength ring i) ≡ keyLength
 length-slotKey keyLength ring i h = length-part ring (i * keyLength) keyLength h
 
+-- the key of a ring's slot is a key
+pub slot-keyed : (keyLength slots′ : ℕ) (ring : List ℕ) (i : ℕ) → isKeyLength keyLength ≡ true → length ring ≡ slots′ * keyLength → i < slots′
+    → isKeyLength (length (slotKey keyLength ring i)) ≡ true
+slot-keyed keyLength slots′ ring i k e h =
+    ap isKeyLength (length-slotKey keyLength ring i (omega (arith, slot-within i slots′ keyLength h))) ∙ k
+
 -- ---- the first slot that passes a test
-
-pub firstSlot-least : (test : ℕ → Bool) (i n : ℕ) → i ≤ firstSlot test i n
-firstSlot-least test i zero = omega arith
-firstSlot-least test i (suc n) = go (test i) (firstSlot-least test (suc i) n)
-  where
-    go : (t : Bool) → suc i ≤ firstSlot test (suc i) n → i ≤ cond t i (firstSlot test (suc i) n)
-    go true ih = omega arith
-    go false ih = omega arith
-
-pub firstSlot-most : (test : ℕ → Bool) (i n : ℕ) → firstSlot test i n ≤ i + n
-firstSlot-most test i zero = omega arith
-firstSlot-most test i (suc n) = go (test i) (firstSlot-most test (suc i) n)
-  where
-    go : (t : Bool) → firstSlot test (suc i) n ≤ suc i + n → cond t i (firstSlot test (suc i) n) ≤ i + suc n
-    go true ih = omega arith
-    go false ih = omega arith
 
 -- a slot that is not the one after them passes
 pub firstSlot-found : (test : ℕ → Bool) (i n : ℕ) → firstSlot test i n < i + n → test (firstSlot test i n) ≡ true
@@ -113,12 +111,6 @@ firstSlot-passed test i (suc n) j l h = go (test i) refl (firstSlot-passed test 
     go true e ih h d = absurd (omega arith)
     go false e ih h (yes p) = ap test p ∙ e
     go false e ih h (no p) = ih (omega arith) h
-
--- tests that agree on the slots have the same first
-pub firstSlot-same : (test test′ : ℕ → Bool) (i n : ℕ) → ((j : ℕ) → i ≤ j → j < i + n → test j ≡ test′ j) → firstSlot test i n ≡ firstSlot test′ i n
-firstSlot-same test test′ i zero h = refl
-firstSlot-same test test′ i (suc n) h =
-    simp (h i (omega arith) (omega arith), firstSlot-same test test′ (suc i) n (λ j l m. h j (omega arith) (omega arith)))
 
 -- ---- the search for it
 
@@ -155,104 +147,162 @@ module _ (test : ℕ → Bool) (count n : ℕ) (scratch : List ℕ) where
   pub searching-all : (used : List ℕ) → Searching test count n scratch used 0 → count ≡ firstSlot test 0 count
   searching-all used s = sym (sub-zero count) ∙ s .first
 
--- ---- the ring's call
+-- ---- the slot that is given
+
+-- the first of n slots that passes a test, or slot 0 where none does
+pub data Given (test : ℕ → Bool) (n : ℕ) : ℕ → Type 0 where
+  found : {s : ℕ} → s < n → test s ≡ true → ((i : ℕ) → i < s → test i ≡ false) → Given test n s
+  none : ((i : ℕ) → i < n → test i ≡ false) → Given test n 0
+
+module _ (test : ℕ → Bool) (n : ℕ) where
+  pub given-found : {s : ℕ} → s ≡ firstSlot test 0 n → s < n → Given test n s
+  given-found e h =
+      found h (ap test e ∙ firstSlot-found test 0 n (omega (arith, e))) (λ i l. firstSlot-passed test 0 n i (omega arith) (omega (arith, e)))
+
+  pub given-none : n ≤ firstSlot test 0 n → Given test n 0
+  given-none h = none (λ i l. firstSlot-passed test 0 n i (omega arith) (omega arith))
+
+  given : let f = firstSlot test 0 n in
+      Given test n (cond (ltb f n) f 0)
+  given = go (ltb (firstSlot test 0 n) n) refl
+    where
+      go : (t : Bool) → ltb (firstSlot test 0 n) n ≡ t → Given test n (cond t (firstSlot test 0 n) 0)
+      go true e = given-found refl (ltb-true (firstSlot test 0 n) n e)
+      go false e = given-none (ltb-false (firstSlot test 0 n) n e)
+
+  pub given-within : {s : ℕ} → 0 < n → Given test n s → s < n
+  given-within z (found h t p) = h
+  given-within z (none p) = z
+
+  -- a slot given that does not pass is slot 0
+  pub given-closed : {s : ℕ} → Given test n s → test s ≡ false → s ≡ 0
+  given-closed (found h t p) e = absurd (false≢true (sym e ∙ t))
+  given-closed (none p) e = refl
+
+  -- tests that agree on the slots give the same one
+  pub given-same : {s : ℕ} (test′ : ℕ → Bool) → ((i : ℕ) → i < n → test i ≡ test′ i) → Given test n s → Given test′ n s
+  given-same test′ same (found {s} h t p) = found h (sym (same s h) ∙ t) (λ i l. sym (same i (omega arith)) ∙ p i l)
+  given-same test′ same (none p) = none (λ i h. sym (same i h) ∙ p i h)
+
+  -- there is one such slot
+  pub given-one : {s s′ : ℕ} → Given test n s → Given test n s′ → s ≡ s′
+  given-one (found {s} h t p) (found {s = s′} h′ t′ p′) = go (decLt s s′) (decLt s′ s)
+    where
+      go : Dec (s < s′) → Dec (s′ < s) → s ≡ s′
+      go (yes l) d = absurd (false≢true (sym (p′ s l) ∙ t))
+      go (no l) (yes l′) = absurd (false≢true (sym (p s′ l′) ∙ t′))
+      go (no l) (no l′) = omega arith
+  given-one (found {s} h t p) (none q) = absurd (false≢true (sym (q s h) ∙ t))
+  given-one (none q) (found {s} h t p) = absurd (false≢true (sym (q s h) ∙ t))
+  given-one (none p) (none q) = refl
+
+-- ---- the call
 
 module _ (keyLength : ℕ) (ring bytes lens input output scratch : List ℕ) where
-  -- the numbers that the judgement gives, with the ring and behind it
+  -- whether the key of slot i opens
+  abbrev pub opensAt : ℕ → Bool
+  opensAt i = eqb (openSlot keyLength ring bytes lens input output scratch i .outcome .number) 0
+
+  abbrev pub withSlot : ℕ → RingResult
+  withSlot s = record { slot = s; call = openSlot keyLength ring bytes lens input output scratch s }
+
+  -- what the call comes to where n is the number of the refusals that judge the ring
+  pub data Settled (n : ℕ) : RingResult → Type 0 where
+    goes : {s : ℕ} → n ≡ 0 → Given opensAt (slots keyLength (length ring)) s → Settled n (withSlot s)
+    stops : (n ≡ 0 → ⊥) → Settled n (refusedRing n output scratch)
+
+  abbrev pub settled : ℕ → RingResult
+  settled n =
+      let count = slots keyLength (length ring) in
+      let f = firstSlot opensAt 0 count in
+      cond (eqb n 0) (withSlot (cond (ltb f count) f 0)) (refusedRing n output scratch)
+
+  pub settles : (n : ℕ) → Settled n (settled n)
+  settles n = go (eqb n 0) refl
+    where
+      go : (t : Bool) → eqb n 0 ≡ t
+          → let count = slots keyLength (length ring) in
+          let f = firstSlot opensAt 0 count in
+          Settled n (cond t (withSlot (cond (ltb f count) f 0)) (refusedRing n output scratch))
+      go true e = goes (eqb-true n 0 e) (given opensAt (slots keyLength (length ring)))
+      go false e = stops (eqb-false n 0 e)
+
+  pub ring-settles : Settled (first (ringRows keyLength (length ring))) (openRing keyLength ring bytes lens input output scratch)
+  unfolding openRing
+  ring-settles = settles (first (ringRows keyLength (length ring)))
+
+-- ---- the call's judgement
+
+module _ (keyLength : ℕ) (ring bytes lens input output scratch : List ℕ) where
+  -- the rows behind the ring's
+  abbrev restRows : List Row
+  restRows = headerRows keyLength lens (length bytes) ++ openRows (length input) (length output) (length scratch)
+
+  -- the numbers that the judgement gives, with the ring's rows and behind them
   abbrev pub ringJudged : ℕ
-  ringJudged =
-      first (ringRows keyLength (length ring) ++ headerRows keyLength lens (length bytes) ++ openRows (length input) (length output) (length scratch))
+  ringJudged = first (ringRows keyLength (length ring) ++ restRows)
 
   abbrev pub restJudged : ℕ
-  restJudged = first (headerRows keyLength lens (length bytes) ++ openRows (length input) (length output) (length scratch))
+  restJudged = first restRows
 
-  count : ℕ
-  count = slots keyLength (length ring)
+  pub ring-judged : ringJudged ≡ 0 → (first (ringRows keyLength (length ring)) ≡ 0) × (restJudged ≡ 0)
+  ring-judged e = first-none (ringRows keyLength (length ring)) restRows refl e
 
-  opens : ℕ → Bool
-  opens i = eqb (openSlot keyLength ring bytes lens input output scratch i .outcome .number) 0
+  -- with any slot's key the judgement is the same
+  slot-judged : first (ringRows keyLength (length ring)) ≡ 0 → (i : ℕ) → i < slots keyLength (length ring)
+      → openJudged (slotKey keyLength ring i) bytes lens input output scratch ≡ restJudged
+  slot-judged z i h =
+      ap (λ (m : ℕ). first (headerRows m lens (length bytes) ++ openRows (length input) (length output) (length scratch)))
+      (length-slotKey keyLength ring i (omega (arith, slot-within i (slots keyLength (length ring)) keyLength h, ring-admits keyLength (length ring) z .1 .whole)))
 
-  -- what the judgement leaves of a ring
-  pub record RingAdmits : Type 0 where
-    pub keyed : isKeyLength keyLength ≡ true
-    pub ringed : isRing keyLength (length ring) ≡ true
-
-  pub ring-rows : first (ringRows keyLength (length ring)) ≡ 0 → RingAdmits
-  ring-rows e =
-      let a = not-due (not (isKeyLength keyLength)) 0 _ e in
-      let b = not-due (not (isRing keyLength (length ring))) 10 0 (a .1) in
-      record { keyed = not-false (isKeyLength keyLength) (a .0); ringed = not-false (isRing keyLength (length ring)) (b .0) }
-
-  pub ring-admits : ringJudged ≡ 0 → RingAdmits × (restJudged ≡ 0)
-  ring-admits e =
-      let none = first-none (ringRows keyLength (length ring)) (headerRows keyLength lens (length bytes) ++ openRows (length input) (length output) (length scratch)) refl e in
-      (ring-rows (none .0), none .1)
-
-  module _ (a : RingAdmits) where
-    -- with any slot's key the judgement is the same
-    pub slot-judged : (i : ℕ) → i < slots keyLength (length ring) → openJudged (slotKey keyLength ring i) bytes lens input output scratch ≡ restJudged
-    slot-judged i h =
-        let whole = ring-whole keyLength (length ring) (key-length-some keyLength (a .keyed)) (a .ringed) in
-        ap (λ (m : ℕ). first (headerRows m lens (length bytes) ++ openRows (length input) (length output) (length scratch)))
-        (length-slotKey keyLength ring i (omega (arith, slot-within i (slots keyLength (length ring)) keyLength h, whole .whole)))
-
-    -- the slot that the call gives, and the single call that it is
-    found : (given : RingAnswer) (last last′ : List ℕ) → given .slot ≡ cond (ltb (firstSlot opens 0 count) count) (firstSlot opens 0 count) 0
-        → DidCall (openSlot keyLength ring bytes lens input output scratch (given .slot)) (given .answer) last last′
-        → DidRing (openRing keyLength ring bytes lens input output scratch) given last last′
-    unfolding openRing opens count
-    found given last last′ e d =
-        record {
-          slot = simp (a .keyed, a .ringed) e;
-          call = simp (a .keyed, a .ringed) (subst (λ (i : ℕ). DidCall (openSlot keyLength ring bytes lens input output scratch i) (given .answer) last last′) e d);
-        }
-
-    -- past the judgement a slot's key opens where the string is genuine under it
-    pub ring-tried : restJudged ≡ 0 → (r : ℕ) → r ≡ firstSlot (λ i. genuine (slotKey keyLength ring i) (strings bytes lens) input) 0 (slots keyLength (length ring))
-        → (given : RingAnswer) (last last′ : List ℕ) → given .slot ≡ cond (ltb r (slots keyLength (length ring))) r 0
-        → DidCall (openSlot keyLength ring bytes lens input output scratch (given .slot)) (given .answer) last last′
-        → DidRing (openRing keyLength ring bytes lens input output scratch) given last last′
-    unfolding opens count
-    ring-tried e r p given last last′ q d =
-        let test : ℕ → Bool = λ i. genuine (slotKey keyLength ring i) (strings bytes lens) input in
-        let same : firstSlot opens 0 count ≡ firstSlot test 0 count =
-        firstSlot-same opens test 0 count (λ j l h. open-number (slotKey keyLength ring j) bytes lens input output scratch (slot-judged j (omega (arith, h)) ∙ e)) in
-        found given last last′ (q ∙ ap (λ (m : ℕ). cond (ltb m count) m 0) (p ∙ sym same)) d
-
-    -- where a refusal but 8 is due, no slot's key opens
-    none-opens : (restJudged ≡ 0 → ⊥) → cond (ltb (firstSlot opens 0 count) count) (firstSlot opens 0 count) 0 ≡ 0
-    unfolding opens count
-    none-opens due = go (ltb (firstSlot opens 0 count) count) (ltb-true (firstSlot opens 0 count) count)
-      where
-        refuses : (j : ℕ) → j < count → opens j ≡ true → ⊥
-        refuses j h t =
-            let judged = slot-judged j h in
-            due (sym judged ∙ sym (open-due (slotKey keyLength ring j) bytes lens input output scratch (λ z. due (sym judged ∙ z))) ∙ eqb-true _ 0 t)
-
-        go : (t : Bool) → (t ≡ true → firstSlot opens 0 count < count) → cond t (firstSlot opens 0 count) 0 ≡ 0
-        go true h = absurd (refuses (firstSlot opens 0 count) (h refl) (firstSlot-found opens 0 count (omega (arith, h refl))))
-        go false h = refl
+  pub slot-passed : ringJudged ≡ 0 → (i : ℕ) → i < slots keyLength (length ring) → openJudged (slotKey keyLength ring i) bytes lens input output scratch ≡ 0
+  slot-passed e i h = slot-judged (ring-judged e .0) i h ∙ ring-judged e .1
 
   -- a refusal of the judgement is the ring's
   pub ring-refused : (answer : Answer) → (outcomeOf answer .number ≡ 0 → ⊥) → outcomeOf answer ≡ withoutLength ringJudged
       → DidRing (openRing keyLength ring bytes lens input output scratch) (record { answer = answer; slot = 0 }) output scratch
-  unfolding openRing
-  ring-refused answer k e = go (ℕ-discrete (first (ringRows keyLength (length ring))) 0)
+  ring-refused answer k e = go (ring-settles keyLength ring bytes lens input output scratch)
     where
-      rest : List Row
-      rest = headerRows keyLength lens (length bytes) ++ openRows (length input) (length output) (length scratch)
+      go : {result : RingResult} → Settled keyLength ring bytes lens input output scratch (first (ringRows keyLength (length ring))) result
+          → DidRing result (record { answer = answer; slot = 0 }) output scratch
+      go (stops z) =
+          record {
+            slot = refl;
+            call = record { outcome = e ∙ ap withoutLength (first-stop (ringRows keyLength (length ring)) restRows z); output = refl; scratch = refl };
+          }
+      go (goes {s} z g) =
+          let pass : ringJudged ≡ restJudged = first-pass (ringRows keyLength (length ring)) restRows refl z in
+          let judged = slot-judged z s (given-within _ _ (ring-admits keyLength (length ring) z .1 .some) g) in
+          let due : openJudged (slotKey keyLength ring s) bytes lens input output scratch ≡ 0 → ⊥ = λ y. k (ap (λ (o : Outcome). o .number) e ∙ pass ∙ sym judged ∙ y) in
+          let closed : opensAt keyLength ring bytes lens input output scratch s ≡ false =
+          ne-eqb (openSlot keyLength ring bytes lens input output scratch s .outcome .number) 0 (λ y. due (sym (open-due (slotKey keyLength ring s) bytes lens input output scratch due) ∙ y)) in
+          record { slot = sym (given-closed _ _ g closed); call = open-refused (slotKey keyLength ring s) bytes lens input output scratch answer k (e ∙ ap withoutLength (pass ∙ sym judged)) }
 
-      go : Dec (first (ringRows keyLength (length ring)) ≡ 0)
-          → DidRing (openRing keyLength ring bytes lens input output scratch) (record { answer = answer; slot = 0 }) output scratch
-      go (yes z) =
-          let a = ring-rows z in
-          let some = ring-whole keyLength (length ring) (key-length-some keyLength (a .keyed)) (a .ringed) .some in
-          let pass : ringJudged ≡ restJudged = first-pass (ringRows keyLength (length ring)) rest refl z in
-          let due : restJudged ≡ 0 → ⊥ = λ y. k (ap (λ (o : Outcome). o .number) e ∙ pass ∙ y) in
-          found a (record { answer = answer; slot = 0 }) output scratch (sym (none-opens a due))
-          (open-refused (slotKey keyLength ring 0) bytes lens input output scratch answer k (e ∙ ap withoutLength (pass ∙ sym (slot-judged a 0 some))))
-      go (no z) =
-          let off : eqb (first (ringRows keyLength (length ring))) 0 ≡ false = ne-eqb (first (ringRows keyLength (length ring))) 0 z in
-          let refused : openRing keyLength ring bytes lens input output scratch ≡ refusedRing (first (ringRows keyLength (length ring))) output scratch = simp off in
-          subst (λ (r : RingResult). DidRing r (record { answer = answer; slot = 0 }) output scratch) (sym refused)
-          (record { slot = refl; call = record { outcome = e ∙ ap withoutLength (first-stop (ringRows keyLength (length ring)) rest z); output = refl; scratch = refl } })
+  -- past the judgement a slot's key opens where the string is genuine under it
+  pub ring-tried : ringJudged ≡ 0 → (given : RingAnswer) (last last′ : List ℕ)
+      → Given (λ i. genuine (slotKey keyLength ring i) (strings bytes lens) input) (slots keyLength (length ring)) (given .slot)
+      → DidCall (openSlot keyLength ring bytes lens input output scratch (given .slot)) (given .answer) last last′
+      → DidRing (openRing keyLength ring bytes lens input output scratch) given last last′
+  ring-tried e given last last′ g d = go (ring-settles keyLength ring bytes lens input output scratch)
+    where
+      go : {result : RingResult} → Settled keyLength ring bytes lens input output scratch (first (ringRows keyLength (length ring))) result → DidRing result given last last′
+      go (stops z) = absurd (z (ring-judged e .0))
+      go (goes {s} z g′) =
+          let opens = given-same _ _ (λ i. genuine (slotKey keyLength ring i) (strings bytes lens) input)
+          (λ i h. open-number (slotKey keyLength ring i) bytes lens input output scratch (slot-passed e i h)) g′ in
+          let at : given .slot ≡ s = given-one _ _ g opens in
+          record { slot = at; call = subst (λ (i : ℕ). DidCall (openSlot keyLength ring bytes lens input output scratch i) (given .answer) last last′) at d }
+
+  -- slot and length are small, so that both fit in one number with the answer's
+  pub ring-small : (given : RingAnswer) (last last′ : List ℕ) → DidRing (openRing keyLength ring bytes lens input output scratch) given last last′
+      → (given .slot ≤ 3) × (outcomeOf (given .answer) .count ≤ limit)
+  ring-small given last last′ d = go (ring-settles keyLength ring bytes lens input output scratch) (d .slot) (ap (λ (o : Outcome). o .count) (d .call .outcome))
+    where
+      go : {result : RingResult} → Settled keyLength ring bytes lens input output scratch (first (ringRows keyLength (length ring))) result → given .slot ≡ result .slot
+          → outcomeOf (given .answer) .count ≡ result .call .outcome .count → (given .slot ≤ 3) × (outcomeOf (given .answer) .count ≤ limit)
+      go (stops z) s n = (omega arith, omega arith)
+      go (goes {s = i} z g) s n =
+          let whole = ring-admits keyLength (length ring) z .1 in (
+            omega (arith, given-within (opensAt keyLength ring bytes lens input output scratch) (slots keyLength (length ring)) (whole .some) g, whole .most),
+            omega (arith, open-count (slotKey keyLength ring i) bytes lens input output scratch),
+          )
