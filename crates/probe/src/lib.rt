@@ -43,7 +43,14 @@ pub extern "C" fn probe_open(
     kinphlor::pack(siv::open(key, header, lens, input, output, scratch))
 }
 
-// The slot's number goes to the front of slot.
+// Hands a slot's number, which is one byte, back through a buffer.
+fn give_slot(slot: usize, to: &mut [u8]) {
+    if to.len() == 0 {
+        return;
+    }
+    to[0] = (slot % 256) as u8;
+}
+
 #[no_mangle]
 pub extern "C" fn probe_open_ring(
     key_len: usize,
@@ -57,9 +64,7 @@ pub extern "C" fn probe_open_ring(
 ) -> u64 {
     let opened = siv::open_ring(key_len, ring, header, lens, input, output, scratch);
     let answer = opened.answer;
-    if slot.len() != 0 {
-        slot[0] = (opened.slot & 255) as u8;
-    }
+    give_slot(opened.slot, slot);
     kinphlor::pack(answer)
 }
 
