@@ -1,16 +1,15 @@
 -- Laws of a ring of keys.
 -- Assumes nothing.
 use mathlib.Core.Path.{_≡_, refl, ap, sym, subst, _∙_}
-use mathlib.Core.Bool.{Bool, true, false, not, false≢true, cond, _||_, or-true}
+use mathlib.Core.Bool.{Bool, true, false, false≢true, cond, _||_, or-true}
 use mathlib.Core.List.{List, _++_}
 use Prim.Native.Nat.{ℕ, zero, suc, _+_, _-_, _*_, _≤_, _<_}
 use native.Mathlib.Decide.{ℕ-discrete, decLt}
 use native.Mathlib.Nat.{sub-zero, div-eq-of-eq-mul-left, mul-le-mul-right}
 use native.Mathlib.Omega.{arith}
 use lib.Dec.{eqb, ltb}
-use lib.ListN.{length, drop}
-use borrow.Author.Tests.{eqb-true, eqb-false, eq-eqb, ne-eqb, not-false, ltb-true, ltb-false}
-use Rattle.octets.proofs.Strings.{length-part}
+use lib.ListN.{length, drop, length-take, length-drop}
+use borrow.Author.Tests.{eqb-true, eqb-false, eq-eqb, ne-eqb, ltb-true, ltb-false}
 use Rattle.header.specs.Header.{strings}
 use Rattle.siv.specs.declared.Answer.{Answer}
 use Rattle.siv.specs.declared.RingAnswer.{RingAnswer}
@@ -18,7 +17,7 @@ use Rattle.siv.specs.Answer.{Outcome, Row, first, outcomeOf, withoutLeng
 use Rattle.siv.specs.Calls.{isKeyLength, limit, headerRows, openRows, DidCall}
 use Rattle.siv.specs.Ring.{isRing, slots, slotKey, firstSlot, ringRows, RingResult, refusedRing, DidRing, openSlot, openRing}
 use Rattle.siv.specs.Siv.{genuine}
-use Rattle.siv.proofs.Laws.{first-none, first-pass, first-stop, not-due, openJudged, open-due, open-count, open-number, open-refused}
+use Rattle.siv.proofs.Laws.{first-none, first-pass, first-stop, openJudged, open-due, open-count, open-number, open-refused}
 
 -- ---- lengths
 
@@ -72,17 +71,22 @@ no-ring keyLength n k h = go (isRing keyLength n) refl
 
 -- what the refusals of the stated length and the ring leave
 pub ring-admits : (keyLength n : ℕ) → first (ringRows keyLength n) ≡ 0 → (isKeyLength keyLength ≡ true) × RingWhole keyLength n
-ring-admits keyLength n e =
-    let a = not-due (not (isKeyLength keyLength)) 0 _ e in
-    let b = not-due (not (isRing keyLength n)) 10 0 (a .1) in
-    let keyed = not-false (isKeyLength keyLength) (a .0) in
-    (keyed, ring-whole keyLength n (key-length-some keyLength keyed) (not-false (isRing keyLength n) (b .0)))
+ring-admits keyLength n e = go (isKeyLength keyLength) refl (isRing keyLength n) refl
+  where
+    due : eqb (first (ringRows keyLength n)) 0 ≡ false → ⊥
+    due d = false≢true (sym d ∙ eq-eqb (first (ringRows keyLength n)) 0 e)
+
+    go : (a : Bool) → isKeyLength keyLength ≡ a → (b : Bool) → isRing keyLength n ≡ b → (isKeyLength keyLength ≡ true) × RingWhole keyLength n
+    go true p true q = (p, ring-whole keyLength n (key-length-some keyLength p) q)
+    go true p false q = absurd (due (simp (p, q)))
+    go false p true q = absurd (due (simp (p, q)))
+    go false p false q = absurd (due (simp (p, q)))
 
 pub slot-within : (i slots′ keyLength : ℕ) → i < slots′ → i * keyLength + keyLength ≤ slots′ * keyLength
 slot-within i slots′ keyLength h = omega (arith, mul-le-mul-right keyLength h)
 
 pub length-slotKey : (keyLength : ℕ) (ring : List ℕ) (i : ℕ) → i * keyLength + keyLength ≤ length ring → length (slotKey keyLength ring i) ≡ keyLength
-length-slotKey keyLength ring i h = length-part ring (i * keyLength) keyLength h
+length-slotKey keyLength ring i h = simp (length-take, length-drop) (omega (arith, h))
 
 -- the key of a ring's slot is a key
 pub slot-keyed : (keyLength slots′ : ℕ) (ring : List ℕ) (i : ℕ) → isKeyLength keyLength ≡ true → length ring ≡ slots′ * keyLength → i < slots′

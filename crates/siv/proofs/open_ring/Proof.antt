@@ -102,12 +102,12 @@ returns-2 c =
     (scratch-wiped (args .scratch .now) _ (length y - 16) (search .1 .1) (done .deliver .ensures .1 .1)))
 
 sub-deliver-2 : tie.Need-sub-deliver-2
-sub-deliver-2 c = admits (c .before .before .before .before .before .before) .tagged
+sub-deliver-2 c = omega (arith, admits (c .before .before .before .before .before .before) .tagged)
 
 deliver-requires-2 : tie.Need-deliver-requires-2
 deliver-requires-2 c κs =
     let a = admits (c .before .before .before .before .before .before .before .before) in
-    (a .roomy, omega (arith, a .scratchy, c .before .before .before .before .before .first-slot .kept .1 .1 .1 .1 .1 .1 .0))
+    omega (arith, a .roomy, a .scratchy, c .before .before .before .before .before .first-slot .kept .1 .1 .1 .1 .1 .1 .0)
 
 same-length-3 : tie.Need-same-length-3
 same-length-3 c = search needs
