@@ -1,7 +1,10 @@
 pub mod Cases
-pub mod First
 pub mod Siv
 pub mod Whole
+pub mod Slots
+pub mod Parts
+pub mod First
+pub mod Ring
 pub mod Pieces
 pub mod Steps
 pub mod Third

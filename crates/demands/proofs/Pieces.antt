@@ -28,7 +28,7 @@ use Rattle.stream.specs.declared.Stream.{Stream}
 use Rattle.stream.specs.State.{start, allZero, writtenLimit, fits, usedTail, tailOf, passedBlocks, added, tagOfState}
 use Rattle.stream.specs.Steps.{streamedAt}
 use Rattle.stream.proofs.Laws.{stateWith, Cut, cut, passed-more}
-use Rattle.demands.proofs.Siv.{length-streamed}
+use Rattle.siv.proofs.Laws.{length-streamed}
 
 with-same : (s : Stream) {c c′ : List ℕ} {n n′ : ℕ} {t t′ : List ℕ} → c ≡ c′ → n ≡ n′ → t ≡ t′ → stateWith s c n t ≡ stateWith s c′ n′ t′
 with-same s {c} {c′} {n} {n′} {t} {t′} p q r =

@@ -14,6 +14,7 @@ use Rattle.aes.proofs.Widths.{length-cipher}
 use Rattle.cmac.specs.Cmac.{cmacFrom}
 use Rattle.s2v.specs.S2v.{tagFrom, tag, s2v}
 use Rattle.ctr.proofs.Laws.{length-xorStream, xorStream-undo}
+use Rattle.siv.proofs.Laws.{length-streamed}
 use Rattle.siv.specs.Siv.{ctrKey, tagOf, streamed, sealed, opened, genuine}
 
 pub length-tag : (key : List ℕ) (ss : List (List ℕ)) (p : List ℕ) → length (tagOf key ss p) ≡ 16
@@ -23,10 +24,6 @@ length-tag key ss p = length-cipher _ _ _
 pub undo : (key v s : List ℕ) → streamed key v (streamed key v s) ≡ s
 unfolding streamed
 undo key v s = xorStream-undo (aes (ctrKey key)) v 0 s
-
-pub length-streamed : (key v s : List ℕ) → length (streamed key v s) ≡ length s
-unfolding streamed
-length-streamed key v s = length-xorStream (aes (ctrKey key)) v 0 s
 
 module _ (key : List ℕ) (ss : List (List ℕ)) where
   pub length-sealed : (p : List ℕ) → length (sealed key ss p) ≡ length p + 16

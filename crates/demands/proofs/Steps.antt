@@ -18,7 +18,7 @@ use Rattle.ctr.specs.Counter.{xorStream}
 use Rattle.siv.specs.Answer.{first, withoutLength}
 use Rattle.siv.specs.Calls.{limit, scratchNeed}
 use Rattle.siv.specs.Siv.{ctrKey, tagOf, streamed, opened, genuine}
-use Rattle.siv.proofs.Laws.{put-over}
+use Rattle.siv.proofs.Laws.{by-tag, length-streamed, put-over}
 use Rattle.stream.specs.declared.Stream.{Stream}
 use Rattle.stream.specs.State.{ended, fits, added, tagOfState}
 use Rattle.stream.specs.Steps.{StepResult, doneStep, refusedStep, settle, feedRows, turned, streamedAt, addStep, turnStep, writeStep, closeStep, feedStep, finishStep}
@@ -26,8 +26,7 @@ use Rattle.demands.specs.Model.{ModelState, wants, After, wholeAccepts, 
 use Rattle.demands.specs.Run.{Begin, sealer, opener, Call, add, turn, write, close, feed, finish, call, sharedAfter}
 use Rattle.demands.specs.Whole.{Admits}
 use Rattle.demands.proofs.Pieces.{stateOf, join, fits-state, tag-state, stream-state, streamed-append, streamed-rest}
-use Rattle.demands.proofs.Siv.{length-streamed}
-use Rattle.demands.proofs.Whole.{by-tag, judged}
+use Rattle.demands.proofs.Whole.{judged}
 
 -- ---- a call in a stage that it does not want
 

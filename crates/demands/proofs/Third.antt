@@ -18,7 +18,7 @@ use Rattle.ctr.specs.Counter.{xorStream}
 use Rattle.siv.specs.Answer.{Outcome, withoutLength}
 use Rattle.siv.specs.Calls.{limit, scratchNeed, openCall}
 use Rattle.siv.specs.Siv.{ctrKey, tagOf, streamed, sealed, opened, genuine}
-use Rattle.siv.proofs.Laws.{openJudged, length-opened}
+use Rattle.siv.proofs.Laws.{openJudged, length-streamed, length-opened}
 use Rattle.stream.specs.declared.Stream.{Stream}
 use Rattle.stream.specs.State.{ended}
 use Rattle.stream.specs.Steps.{StepResult, doneStep, beginSealer, beginOpener}
@@ -27,7 +27,7 @@ use Rattle.demands.specs.Run.{Begin, sealer, opener, Call, add, turn, wr
 use Rattle.demands.specs.Third.{onePiece, gaveBy, gave, noFinish, AsModel, AsSealed, fed, AsOpened, ThirdDemand}
 use Rattle.demands.specs.Whole.{Admits}
 use Rattle.demands.proofs.Pieces.{stateOf, begin-state, streamed-append, streamed-rest}
-use Rattle.demands.proofs.Siv.{length-tag, length-streamed}
+use Rattle.demands.proofs.Siv.{length-tag}
 use Rattle.demands.proofs.Steps.{modelOf, Known, adding, writing, closed, feeding, finished, Steps, step, known-shown, accepts-genuine, refusedAfter, doneAfter, model-wrong, unwanted}
 use Rattle.demands.proofs.Whole.{judged, open-gives, open-wipes, accepts-the-sealed}
 

@@ -13,7 +13,7 @@ use Rattle.header.specs.Header.{total, strings}
 use Rattle.siv.specs.Answer.{Outcome, success, withoutLength, Row, row}
 use Rattle.siv.specs.Calls.{limit, scratchNeed, headerRows, openRows, sealNumber, sealCall, openNumber, openCall}
 use Rattle.siv.specs.Siv.{sealed, opened, genuine}
-use Rattle.siv.proofs.Laws.{first-none, first-pass, openJudged, open-admits, length-opened}
+use Rattle.siv.proofs.Laws.{openJudged, open-admits, by-tag, open-passed, length-opened}
 use Rattle.demands.specs.Whole.{Admits, Gives, Second, SealsTo, ThirdWhole}
 use Rattle.demands.proofs.Siv.{length-sealed, opened-sealed, genuine-sealed, sealed-opened}
 
@@ -40,24 +40,8 @@ module _ (key bytes lens p output scratch : List ℕ) (a : Admits key bytes lens
 -- ---- opening
 
 module _ (key bytes lens y output scratch : List ℕ) where
-  rows : List Row
-  rows = headerRows (length key) lens (length bytes) ++ openRows (length y) (length output) (length scratch)
-
-  forgery : List Row
-  forgery = row 8 (not (genuine key (strings bytes lens) y)) ∷ []
-
-  -- past the judgement the tag decides
-  pub by-tag : openJudged key bytes lens y output scratch ≡ 0 → openNumber key bytes lens y output scratch ≡ cond (not (genuine key (strings bytes lens) y)) 8 0
-  unfolding openNumber rows forgery
-  by-tag j = first-pass rows forgery refl j
-
-  -- a number of 0 passed the judgement
-  judged-zero : openNumber key bytes lens y output scratch ≡ 0 → openJudged key bytes lens y output scratch ≡ 0
-  unfolding openNumber rows forgery
-  judged-zero e = first-none rows forgery refl e .0
-
   genuine-zero : openNumber key bytes lens y output scratch ≡ 0 → genuine key (strings bytes lens) y ≡ true
-  genuine-zero e = go (genuine key (strings bytes lens) y) (sym (by-tag (judged-zero e)) ∙ e)
+  genuine-zero e = go (genuine key (strings bytes lens) y) (sym (by-tag key bytes lens y output scratch (open-passed key bytes lens y output scratch e)) ∙ e)
     where
       go : (b : Bool) → _≡_ {A = ℕ} (cond (not b) 8 0) 0 → b ≡ true
       go true p = refl
@@ -68,14 +52,14 @@ module _ (key bytes lens y output scratch : List ℕ) where
       → Gives (openCall key bytes lens y output scratch) output (opened key y)
   unfolding openCall
   open-gives j g =
-      let number : openNumber key bytes lens y output scratch ≡ 0 = by-tag j ∙ ap (λ (b : Bool). cond (not b) 8 0) g in
+      let number : openNumber key bytes lens y output scratch ≡ 0 = by-tag key bytes lens y output scratch j ∙ ap (λ (b : Bool). cond (not b) 8 0) g in
       (simp number (ap success (sym (length-opened key y))), simp number)
 
   pub open-wipes : openJudged key bytes lens y output scratch ≡ 0 → genuine key (strings bytes lens) y ≡ false
       → (openCall key bytes lens y output scratch .outcome ≡ withoutLength 8) × (openCall key bytes lens y output scratch .output ≡ put output 0 (replicate (length y - 16) 0))
   unfolding openCall
   open-wipes j g =
-      let number : openNumber key bytes lens y output scratch ≡ 8 = by-tag j ∙ ap (λ (b : Bool). cond (not b) 8 0) g in
+      let number : openNumber key bytes lens y output scratch ≡ 8 = by-tag key bytes lens y output scratch j ∙ ap (λ (b : Bool). cond (not b) 8 0) g in
       (simp number, simp number)
 
   module _ (a : Admits key bytes lens) (roomy : length y - 16 ≤ length output) (scratchy : scratchNeed (length y - 16) ≤ length scratch) where
@@ -96,7 +80,7 @@ module _ (key bytes lens y output scratch : List ℕ) where
     genuine-seals limited g = (omega (arith, length-opened key y), sealed-opened key (strings bytes lens) y g)
 
     zero-seals : openNumber key bytes lens y output scratch ≡ 0 → SealsTo key bytes lens y (opened key y)
-    zero-seals e = genuine-seals (open-admits key bytes lens y output scratch (judged-zero e) .limited) (genuine-zero e)
+    zero-seals e = genuine-seals (open-admits key bytes lens y output scratch (open-passed key bytes lens y output scratch e) .limited) (genuine-zero e)
 
     -- two strings of one length that were written to the same place are the same
     written-same : (P Q : List ℕ) → length P ≡ length Q → length P ≤ length output → put output 0 P ≡ put output 0 Q → P ≡ Q
@@ -110,7 +94,7 @@ module _ (key bytes lens y output scratch : List ℕ) where
     unfolding openCall
     whole-accepts P (o, q) =
         let zero : openNumber key bytes lens y output scratch ≡ 0 = ap (λ (r : Outcome). r .number) o in
-        let gives : Gives (openCall key bytes lens y output scratch) output (opened key y) = open-gives (judged-zero zero) (genuine-zero zero) in
+        let gives : Gives (openCall key bytes lens y output scratch) output (opened key y) = open-gives (open-passed key bytes lens y output scratch zero) (genuine-zero zero) in
         let long : length P ≡ length (opened key y) = ap (λ (r : Outcome). r .count) (sym o ∙ gives .0) in
         let same : P ≡ opened key y = written-same P (opened key y) long (omega (arith, length-opened key y)) (sym q ∙ gives .1) in
         subst (SealsTo key bytes lens y) (sym same) (zero-seals zero)

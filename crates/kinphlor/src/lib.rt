@@ -1,9 +1,13 @@
-// The C interface: whole sealing and opening over byte slices, with associated data and nonce as the header list.
+// The C interface: whole sealing and opening over byte slices, and opening under a ring of keys, with associated data and nonce as the header list.
 ghost use mathlib.Core.Path.{_≡_};
+ghost use Prim.Native.Nat.{_≤_};
 ghost use Rattle.siv.specs.Answer.{numberOf, outcomeOf};
+ghost use Rattle.siv.specs.Calls.{limit};
 ghost use Rattle.kinphlor.specs.Interface.{packed, emptyNonce, sealFromC, openFromC, PerformsFromC};
+ghost use Rattle.kinphlor.specs.Interface.{packedRing, emptyNonceRing, PerformsRingFromC};
 use siv::Answer;
 use siv::Refusal;
+use siv::RingAnswer;
 
 // A refusal's number.
 fn number(r: Refusal) -> u64
@@ -82,4 +86,44 @@ pub extern "C" fn kinphlor_open(
     }
     let lens = [ad_len, nonce_len];
     pack(siv::open(key, header, &lens, input, output, scratch))
+}
+
+// A ring's answer as one number: the slot, times 2 to the power 28, stands between number and length.
+fn pack_ring(a: RingAnswer) -> u64
+    requires { ⌜ (a .slot ≤ 3) × (outcomeOf (a .answer) .count ≤ limit) ⌝ }
+    ensures { λ n. ⌜ n ≡ packedRing (a .slot) (outcomeOf (a .answer)) ⌝ }
+{
+    let answer = a.answer;
+    pack(answer) + (a.slot as u64) * 268435456
+}
+
+// Whether the nonce is empty, and neither key length nor ring is to refuse before it.
+fn empty_nonce_ring(key_len: usize, ring_len: usize, nonce_len: u32) -> bool
+    ensures { λ r. ⌜ r ≡ emptyNonceRing «key_len» «ring_len» «nonce_len» ⌝ }
+{
+    if let Answer::Refused(_) = siv::judge::judge_ring(key_len, ring_len) {
+        return false;
+    }
+    nonce_len == 0
+}
+
+// Opens what kinphlor_seal sealed, under the first key of a ring that opens it.
+#[no_mangle]
+pub extern "C" fn kinphlor_open_ring(
+    key_len: usize,
+    ring: &[u8],
+    header: &[u8],
+    ad_len: u32,
+    nonce_len: u32,
+    input: &[u8],
+    output: &mut [u8],
+    scratch: &mut [u8],
+) -> u64
+    ensures { λ r. ⌜ PerformsRingFromC «key_len» ring header «ad_len» «nonce_len» input output scratch r ⌝ }
+{
+    if empty_nonce_ring(key_len, ring.len(), nonce_len) {
+        return pack(Answer::Refused(Refusal::EmptyNonce));
+    }
+    let lens = [ad_len, nonce_len];
+    pack_ring(siv::open_ring(key_len, ring, header, &lens, input, output, scratch))
 }

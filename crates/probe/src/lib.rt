@@ -43,6 +43,31 @@ pub extern "C" fn probe_open(
     kinphlor::pack(siv::open(key, header, lens, input, output, scratch))
 }
 
+// Hands a slot's number, which is one byte, back through a buffer.
+fn give_slot(slot: usize, to: &mut [u8]) {
+    if to.len() == 0 {
+        return;
+    }
+    to[0] = (slot % 256) as u8;
+}
+
+#[no_mangle]
+pub extern "C" fn probe_open_ring(
+    key_len: usize,
+    ring: &[u8],
+    header: &[u8],
+    lens: &[u32],
+    input: &[u8],
+    output: &mut [u8],
+    scratch: &mut [u8],
+    slot: &mut [u8],
+) -> u64 {
+    let opened = siv::open_ring(key_len, ring, header, lens, input, output, scratch);
+    let answer = opened.answer;
+    give_slot(opened.slot, slot);
+    kinphlor::pack(answer)
+}
+
 #[no_mangle]
 pub extern "C" fn probe_begin_sealer(
     key: &[u8],

@@ -5,14 +5,15 @@ use mathlib.Core.Bool.{Bool, true, false, not, false≢true, cond, _&&_, _||_, a
 use mathlib.Core.List.{List, [], _∷_, _++_}
 use Prim.Native.Nat.{ℕ, suc, _+_, _-_, _/_, _≤_}
 use native.Mathlib.Decide.{ℕ-discrete}
+use native.Mathlib.Nat.{zero-add}
 use native.Mathlib.Omega.{arith}
 use lib.Dec.{eqb, ltb}
 use lib.ListN.{length, take, drop, replicate, length-drop, length-replicate}
-use lib.Seq.{drop-append-add, drop-drop}
+use lib.Seq.{drop-at, drop-drop}
 use borrow.Author.Tests.{eqb-true, eq-eqb, ne-eqb, ltb-false, not-false}
 use types.Run.{OneOf}
-use denote.Enum.Declared.{tagOf}
-use Rattle.octets.specs.Octets.{put}
+use denote.Enum.Declared as declared
+use Rattle.octets.specs.Octets.{put, same}
 use Rattle.octets.proofs.Strings.{take-put}
 use Rattle.aes.specs.Aes.{isWidth, aes}
 use Rattle.aes.specs.Cipher.{cipher}
@@ -23,9 +24,9 @@ use Rattle.siv.specs.declared.Answer.{Answer}
 use Rattle.siv.specs.declared.Answer.the-variants.{Ok, Refused}
 use Rattle.siv.specs.declared.Refusal.{Refusal}
 use Rattle.siv.specs.declared.Refusal.the-variants.{KeyLength, HeaderCount, HeaderLengths, TooLong, SealedLength, OutputShort, ScratchShort, Forged, State, EmptyNonce, RingLength}
-use Rattle.siv.specs.Answer.{Outcome, Row, row, first, numberOf, outcomeOf, withoutLength}
+use Rattle.siv.specs.Answer.{Outcome, Row, row, first, numberOf, outcomeOf, success, withoutLength}
 use Rattle.siv.specs.Calls.{isKeyLength, limit, scratchNeed, headerRows, sealRows, openRows, Usable, DidCall, sealNumber, sealCall, openNumber, openCall}
-use Rattle.siv.specs.Siv.{streamed, sealed, opened, genuine}
+use Rattle.siv.specs.Siv.{tagOf, streamed, sealed, opened, genuine}
 use Rattle.siv.proofs.Answer.{the-type}
 
 -- ---- keys
@@ -108,24 +109,24 @@ refusal-number EmptyNonce e = omega arith
 refusal-number RingLength e = omega arith
 
 -- what a match tells of an answer: 0 and 1 are the places of its cases
-pub told-refused : (a : Answer) → OneOf (1 ∷ []) (tagOf the-type a) → outcomeOf a .number ≡ 0 → ⊥
+pub told-refused : (a : Answer) → OneOf (1 ∷ []) (declared.tagOf the-type a) → outcomeOf a .number ≡ 0 → ⊥
 told-refused (Ok n) k e = let z : _≡_ {A = ℕ} 0 1 = k in omega arith
 told-refused (Refused r) k e = refusal-number r e
 
-pub told-ok : (a : Answer) → OneOf (0 ∷ []) (tagOf the-type a) → outcomeOf a .number ≡ 0
+pub told-ok : (a : Answer) → OneOf (0 ∷ []) (declared.tagOf the-type a) → outcomeOf a .number ≡ 0
 told-ok (Ok n) k = refl
 told-ok (Refused r) k = let z : _≡_ {A = ℕ} 1 0 = k in absurd (omega arith)
 
 -- past a judgement none was due
-pub passed : (a : Answer) (n : ℕ) → OneOf (0 ∷ []) (tagOf the-type a) → outcomeOf a ≡ withoutLength n → n ≡ 0
+pub passed : (a : Answer) (n : ℕ) → OneOf (0 ∷ []) (declared.tagOf the-type a) → outcomeOf a ≡ withoutLength n → n ≡ 0
 passed a n k e = sym (ap (λ (o : Outcome). o .number) e) ∙ told-ok a k
 
 -- a refusal stays due whatever rows come behind
-pub still-due : (a : Answer) (rows rest : List Row) → OneOf (1 ∷ []) (tagOf the-type a) → outcomeOf a ≡ withoutLength (first rows) → outcomeOf a ≡ withoutLength (first (rows ++ rest))
+pub still-due : (a : Answer) (rows rest : List Row) → OneOf (1 ∷ []) (declared.tagOf the-type a) → outcomeOf a ≡ withoutLength (first rows) → outcomeOf a ≡ withoutLength (first (rows ++ rest))
 still-due a rows rest k e = e ∙ ap withoutLength (sym (first-stop rows rest (λ z. told-refused a k (ap (λ (o : Outcome). o .number) e ∙ z))))
 
 -- past a judgement the rows behind decide
-pub next-due : (a : Answer) (rows rest : List Row) → lacks 0 rows ≡ true → OneOf (0 ∷ []) (tagOf the-type a) → outcomeOf a ≡ withoutLength (first rows)
+pub next-due : (a : Answer) (rows rest : List Row) → lacks 0 rows ≡ true → OneOf (0 ∷ []) (declared.tagOf the-type a) → outcomeOf a ≡ withoutLength (first rows)
     → withoutLength (first rest) ≡ withoutLength (first (rows ++ rest))
 next-due a rows rest l k e = ap withoutLength (sym (first-pass rows rest l (passed a (first rows) k e)))
 
@@ -180,6 +181,15 @@ module _ (key bytes lens input output scratch : List ℕ) where
         scratchy = ltb-false (length scratch) (scratchNeed (length input)) (h .0);
       }
 
+  -- no length is above the longest sealed string's
+  pub seal-count : sealCall key bytes lens input output scratch .outcome .count ≤ limit + 16
+  unfolding sealCall
+  seal-count = go (eqb (sealNumber key bytes lens input output scratch) 0) refl
+    where
+      go : (t : Bool) → eqb (sealNumber key bytes lens input output scratch) 0 ≡ t → cond t (length input + 16) 0 ≤ limit + 16
+      go true e = omega (arith, seal-admits (eqb-true _ 0 e) .limited)
+      go false e = omega arith
+
   pub seal-refused : (answer : Answer) → (outcomeOf answer .number ≡ 0 → ⊥) → outcomeOf answer ≡ withoutLength (sealNumber key bytes lens input output scratch)
       → DidCall (sealCall key bytes lens input output scratch) answer output scratch
   unfolding sealCall
@@ -205,40 +215,54 @@ pub record OpenAdmits (key bytes lens input output scratch : List ℕ) : Type 0 
   pub roomy : length input - 16 ≤ length output
   pub scratchy : scratchNeed (length input - 16) ≤ length scratch
 
+-- what was in the bytes that are written over does not matter
+pub put-beyond : (l used b : List ℕ) (n : ℕ) → n ≤ length b → drop n used ≡ drop n l → put used 0 b ≡ put l 0 b
+unfolding put
+put-beyond l used b n h e =
+    let past : n + (length b - n) ≡ 0 + length b = omega arith in
+    let split : (k : List ℕ) → drop (0 + length b) k ≡ drop (length b - n) (drop n k) = λ k. sym (drop-drop (length b - n) n k ∙ ap (λ (m : ℕ). drop m k) past) in
+    ap (λ (t : List ℕ). b ++ t) (split used ∙ ap (drop (length b - n)) e ∙ sym (split l))
+
+-- a string to the front of a list leaves the rest
+pub put-rest : (l a : List ℕ) {used : List ℕ} {n : ℕ} → used ≡ put l 0 a → n ≡ length a → drop n used ≡ drop n l
+unfolding put
+put-rest l a u n =
+    ap₂ drop n u ∙ drop-at a (drop (0 + length a) l) (length a) refl ∙ ap (λ (m : ℕ). drop m l) (zero-add (length a) ∙ sym n)
+
 -- zeros written over what was written before them
 pub put-over : (l a b : List ℕ) → length a ≤ length b → put (put l 0 a) 0 b ≡ put l 0 b
-unfolding put
-put-over l a b h =
-    let past : 0 + length b ≡ length a + (length b - length a) = omega arith in
-    let whole : 0 + length a + (length b - length a) ≡ 0 + length b = omega arith in
-    let rest : drop (0 + length b) (a ++ drop (0 + length a) l) ≡ drop (0 + length b) l =
-    ap (λ (n : ℕ). drop n (a ++ drop (0 + length a) l)) past
-    ∙ drop-append-add a (drop (0 + length a) l) (length b - length a)
-    ∙ drop-drop (length b - length a) (0 + length a) l
-    ∙ ap (λ (n : ℕ). drop n l) whole in
-    ap (λ (t : List ℕ). b ++ t) rest
+put-over l a b h = put-beyond l (put l 0 a) b (length a) h (put-rest l a refl refl)
+
+pub length-streamed : (key v s : List ℕ) → length (streamed key v s) ≡ length s
+unfolding streamed
+length-streamed key v s = length-xorStream _ v 0 s
 
 pub length-opened : (key y : List ℕ) → length (opened key y) ≡ length y - 16
-unfolding opened streamed
-length-opened key y = length-xorStream _ (take 16 y) 0 (drop 16 y) ∙ length-drop 16 y
+unfolding opened
+length-opened key y = length-streamed key (take 16 y) (drop 16 y) ∙ length-drop 16 y
 
--- the plaintext, read off the front of the scratch that it was written to
-pub text-read : (key y scratch : List ℕ) {used : List ℕ} → used ≡ put scratch 0 (opened key y) → length y - 16 ≤ length scratch → take (length y - 16 - 0) used ≡ opened key y
-text-read key y scratch u h =
-    let long : length (opened key y) ≡ length y - 16 = length-opened key y in
-    let count : length y - 16 - 0 ≡ 0 + length (opened key y) = omega arith in
-    ap₂ take count u ∙ take-put scratch 0 (opened key y) (omega arith)
+-- a ciphertext opens under its tag as the sealed string that both are
+pub opened-by : (key y : List ℕ) {v ciphertext : List ℕ} → v ≡ take 16 y → ciphertext ≡ drop 16 y → streamed key v ciphertext ≡ opened key y
+unfolding opened
+opened-by key y p q = ap₂ (streamed key) p q
+
+pub genuine-by : (key : List ℕ) (ss : List (List ℕ)) (y : List ℕ) {v ciphertext : List ℕ} → v ≡ take 16 y → ciphertext ≡ drop 16 y
+    → same (tagOf key ss (streamed key v ciphertext)) v ≡ genuine key ss y
+unfolding genuine
+genuine-by key ss y p q = ap₂ (λ (x w : List ℕ). same (tagOf key ss x) w) (opened-by key y p q) p
+
+-- a string, read off the front that it was written to
+pub text-read : (text scratch : List ℕ) {used : List ℕ} {n : ℕ} → used ≡ put scratch 0 text → n ≡ length text → length text ≤ length scratch → take n used ≡ text
+text-read text scratch u n h =
+    let count : _ ≡ 0 + length text = n ∙ sym (zero-add (length text)) in
+    ap₂ take count u ∙ take-put scratch 0 text (omega arith)
 
 -- the scratch is zero once zeros are written over what was used of it
-pub scratch-wiped : (key y scratch : List ℕ) (need : ℕ) {used last : List ℕ} → used ≡ put scratch 0 (opened key y) → need ≡ scratchNeed (length y - 16)
-    → last ≡ put used 0 (replicate need 0) → last ≡ put scratch 0 (replicate (scratchNeed (length y - 16)) 0)
-scratch-wiped key y scratch need u n e =
-    let long : length (opened key y) ≡ length y - 16 = length-opened key y in
-    let zeros : length (replicate {A = ℕ} need 0) ≡ need = length-replicate {A = ℕ} need 0 in
-    e
-    ∙ ap (λ (l : List ℕ). put l 0 (replicate need 0)) u
-    ∙ put-over scratch (opened key y) (replicate need 0) (omega arith)
-    ∙ ap (λ (m : ℕ). put scratch 0 (replicate m 0)) n
+pub scratch-wiped : (scratch used : List ℕ) (n : ℕ) {last : List ℕ} → drop n used ≡ drop n scratch → last ≡ put used 0 (replicate (scratchNeed n) 0)
+    → last ≡ put scratch 0 (replicate (scratchNeed n) 0)
+scratch-wiped scratch used n u e =
+    let zeros : length (replicate {A = ℕ} (scratchNeed n) 0) ≡ scratchNeed n = length-replicate {A = ℕ} (scratchNeed n) 0 in
+    e ∙ put-beyond scratch used (replicate (scratchNeed n) 0) n (omega arith) u
 
 module _ (key bytes lens input output scratch : List ℕ) where
   -- the number that opening's judgement gives
@@ -274,9 +298,9 @@ module _ (key bytes lens input output scratch : List ℕ) where
   stops due = first-stop rows (row 8 (not (genuine key (strings bytes lens) input)) ∷ []) due
 
   -- past the judgement the tag decides
-  passes : openJudged ≡ 0 → number ≡ cond (not (genuine key (strings bytes lens) input)) 8 0
-  unfolding number rows openNumber
-  passes judged = first-pass rows (row 8 (not (genuine key (strings bytes lens) input)) ∷ []) refl judged
+  pub by-tag : openJudged ≡ 0 → openNumber key bytes lens input output scratch ≡ cond (not (genuine key (strings bytes lens) input)) 8 0
+  unfolding rows openNumber
+  by-tag judged = first-pass rows (row 8 (not (genuine key (strings bytes lens) input)) ∷ []) refl judged
 
   not-eight : openJudged ≡ 8 → ⊥
   unfolding rows
@@ -291,17 +315,43 @@ module _ (key bytes lens input output scratch : List ℕ) where
       let off8 : eqb number 8 ≡ false = ne-eqb number 8 (λ z. not-eight (sym (stops due) ∙ z)) in
       record { outcome = simp off (e ∙ ap withoutLength (sym (stops due))); output = simp (off, off8); scratch = simp (off, off8) }
 
-  module _ (output′ scratch′ : List ℕ) (judged : openJudged ≡ 0) (wiped : scratch′ ≡ put scratch 0 (replicate (scratchNeed (length input - 16)) 0)) where
-    pub open-done : genuine key (strings bytes lens) input ≡ true → output′ ≡ put output 0 (opened key input)
-        → DidCall (openCall key bytes lens input output scratch) (Ok (length input - 16)) output′ scratch′
-    unfolding openCall number
-    open-done g p =
-        let none : number ≡ 0 = passes judged ∙ ap (λ (b : Bool). cond (not b) 8 0) g in
-        record { outcome = simp none; output = simp none p; scratch = simp none wiped }
+  -- a refusal of the judgement is the call's number
+  pub open-due : (openJudged ≡ 0 → ⊥) → openCall key bytes lens input output scratch .outcome .number ≡ openJudged
+  unfolding openCall number
+  open-due due = stops due
 
-    pub open-forged : genuine key (strings bytes lens) input ≡ false → output′ ≡ put output 0 (replicate (length input - 16) 0)
-        → DidCall (openCall key bytes lens input output scratch) (Refused Forged) output′ scratch′
-    unfolding openCall number
-    open-forged g p =
-        let eight : number ≡ 8 = passes judged ∙ ap (λ (b : Bool). cond (not b) 8 0) g in
-        record { outcome = simp eight; output = simp eight p; scratch = simp eight wiped }
+  -- past the judgement the number is 0 where the string is genuine
+  pub open-number : openJudged ≡ 0 → eqb (openCall key bytes lens input output scratch .outcome .number) 0 ≡ genuine key (strings bytes lens) input
+  unfolding openCall number
+  open-number judged = ap (λ (n : ℕ). eqb n 0) (by-tag judged) ∙ go (genuine key (strings bytes lens) input)
+    where
+      go : (g : Bool) → eqb (cond (not g) 8 0) 0 ≡ g
+      go true = refl
+      go false = refl
+
+  -- a number of 0 passed the judgement
+  pub open-passed : openNumber key bytes lens input output scratch ≡ 0 → openJudged ≡ 0
+  unfolding number rows openNumber
+  open-passed e = first-none rows (row 8 (not (genuine key (strings bytes lens) input)) ∷ []) refl e .0
+
+  -- no length is above the longest plaintext's
+  pub open-count : openCall key bytes lens input output scratch .outcome .count ≤ limit
+  unfolding openCall
+  open-count = go (eqb (openNumber key bytes lens input output scratch) 0) refl
+    where
+      go : (t : Bool) → eqb (openNumber key bytes lens input output scratch) 0 ≡ t → cond t (length input - 16) 0 ≤ limit
+      go true e = omega (arith, open-admits (open-passed (eqb-true _ 0 e)) .limited)
+      go false e = omega arith
+
+  -- and what was read of a genuine string, or zeros, are in the output
+  pub open-delivered : (g : Bool) → genuine key (strings bytes lens) input ≡ g → openJudged ≡ 0 → (answer : Answer) (read output′ scratch′ : List ℕ)
+      → outcomeOf answer ≡ cond g (success (length input - 16)) (withoutLength 8) → (g ≡ true → read ≡ opened key input)
+      → output′ ≡ put output 0 (cond g read (replicate (length input - 16) 0)) → scratch′ ≡ put scratch 0 (replicate (scratchNeed (length input - 16)) 0)
+      → DidCall (openCall key bytes lens input output scratch) answer output′ scratch′
+  unfolding openCall number
+  open-delivered true e judged answer read output′ scratch′ o t p q =
+      let none : number ≡ 0 = by-tag judged ∙ ap (λ (b : Bool). cond (not b) 8 0) e in
+      record { outcome = simp none o; output = simp none (p ∙ ap (put output 0) (t refl)); scratch = simp none q }
+  open-delivered false e judged answer read output′ scratch′ o t p q =
+      let eight : number ≡ 8 = by-tag judged ∙ ap (λ (b : Bool). cond (not b) 8 0) e in
+      record { outcome = simp eight o; output = simp eight p; scratch = simp eight q }

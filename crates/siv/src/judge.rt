@@ -1,8 +1,10 @@
 // Which refusal is due, from lengths alone.
 ghost use mathlib.Core.Path.{_≡_};
 ghost use mathlib.Core.List.{_++_};
+ghost use Prim.Native.Nat.{_<_};
 ghost use Rattle.siv.specs.Answer.{outcomeOf, first, withoutLength};
 ghost use Rattle.siv.specs.Calls.{scratchNeed, headerRows, sealRows, openRows};
+ghost use Rattle.siv.specs.Ring.{isRing, ringRows};
 use crate::Answer;
 use crate::LIMIT;
 use crate::Refusal;
@@ -10,6 +12,9 @@ use crate::TAG_LEN;
 
 // The least scratch.
 const SCRATCH_MIN: usize = 16;
+
+// The most keys of a ring.
+const RING_MAX: usize = 4;
 
 // The scratch that a plaintext of n bytes needs.
 pub(crate) fn scratch_need(n: usize) -> usize
@@ -106,4 +111,50 @@ pub(crate) fn judge_open(
         return answer;
     }
     judge_sealed(y, output, scratch)
+}
+
+// Whether ring_len bytes are one to four whole keys.
+fn is_ring(key_len: usize, ring_len: usize) -> bool
+    requires { ⌜ 0 < «key_len» ⌝ }
+    ensures { λ r. ⌜ r ≡ isRing «key_len» «ring_len» ⌝ }
+{
+    if ring_len % key_len != 0 {
+        return false;
+    }
+    if ring_len < key_len {
+        return false;
+    }
+    ring_len / key_len <= RING_MAX
+}
+
+// The refusals of the stated key length and the ring.
+pub fn judge_ring(key_len: usize, ring_len: usize) -> Answer
+    ensures { λ r. ⌜ outcomeOf r ≡ withoutLength (first (ringRows «key_len» «ring_len»)) ⌝ }
+{
+    if !crate::is_key_len(key_len) {
+        return Answer::Refused(Refusal::KeyLength);
+    }
+    if is_ring(key_len, ring_len) {
+        return Answer::Ok(0);
+    }
+    Answer::Refused(Refusal::RingLength)
+}
+
+// The refusals of opening under a ring but for a forged string.
+pub(crate) fn judge_open_ring(
+    key_len: usize,
+    ring_len: usize,
+    lens: &[u32],
+    header_len: usize,
+    y: usize,
+    output: usize,
+    scratch: usize,
+) -> Answer
+    ensures { λ r. ⌜ outcomeOf r ≡ withoutLength (first (ringRows «key_len» «ring_len» ++ headerRows «key_len» (now (lens .entry)) «header_len» ++ openRows y output scratch)) ⌝ }
+{
+    let answer = judge_ring(key_len, ring_len);
+    if let Answer::Refused(_) = answer {
+        return answer;
+    }
+    judge_open(key_len, lens, header_len, y, output, scratch)
 }

@@ -1,9 +1,10 @@
-// Whole sealing and opening, AES-SIV as RFC 5297 has it, with document 01's answers.
+// Whole sealing and opening, AES-SIV as RFC 5297 has it, with document 01's answers; opening under a ring of keys too.
 pub mod judge;
 mod work;
 
 ghost use mathlib.Core.Path.{_≡_};
 ghost use Rattle.siv.specs.Calls.{isKeyLength, sealCall, openCall, Performs};
+ghost use Rattle.siv.specs.Ring.{PerformsRing};
 
 // The longest plaintext.
 pub const LIMIT: usize = 1048576;
@@ -113,13 +114,48 @@ pub fn open(
     if let Answer::Refused(_) = answer {
         return answer;
     }
-    let n = y - TAG_LEN;
-    if work::open_admitted(key, header, lens, input, scratch) {
-        octets::copy_at(output, 0, &scratch[0..n]);
-        octets::zero_at(scratch, 0, judge::scratch_need(n));
-        return Answer::Ok(n);
+    let genuine = work::open_admitted(key, header, lens, input, scratch);
+    work::deliver(genuine, y - TAG_LEN, output, scratch)
+}
+
+// Opens a sealed string under the first key of a ring that opens it: the ring is one to four keys of key_len bytes, tried from slot 0.
+pub fn open_ring(
+    key_len: usize,
+    ring: &[u8],
+    header: &[u8],
+    lens: &[u32],
+    input: &[u8],
+    output: &mut [u8],
+    scratch: &mut [u8],
+) -> RingAnswer
+    ensures { λ r. ⌜ PerformsRing «key_len» ring header lens input output scratch r ⌝ }
+{
+    let y = input.len();
+    let answer = judge::judge_open_ring(
+        key_len,
+        ring.len(),
+        lens,
+        header.len(),
+        y,
+        output.len(),
+        scratch.len(),
+    );
+    if let Answer::Refused(_) = answer {
+        return RingAnswer {
+            answer: answer,
+            slot: 0,
+        };
     }
-    octets::zero_at(output, 0, n);
-    octets::zero_at(scratch, 0, judge::scratch_need(n));
-    Answer::Refused(Refusal::Forged)
+    let slots = ring.len() / key_len;
+    let slot = work::first_slot(key_len, slots, ring, header, lens, input, scratch);
+    if slot < slots {
+        return RingAnswer {
+            answer: work::deliver(true, y - TAG_LEN, output, scratch),
+            slot: slot,
+        };
+    }
+    RingAnswer {
+        answer: work::deliver(false, y - TAG_LEN, output, scratch),
+        slot: 0,
+    }
 }

@@ -1,16 +1,21 @@
 // What is done once a call is admitted.
 ghost use mathlib.Core.Path.{_≡_};
-ghost use mathlib.Core.Bool.{true};
-ghost use Prim.Native.Nat.{_+_, _≤_};
-ghost use lib.ListN.{length};
-ghost use Rattle.octets.specs.Octets.{put};
+ghost use mathlib.Core.Bool.{true, cond};
+ghost use Prim.Native.Nat.{_+_, _-_, _*_, _≤_, _<_};
+ghost use lib.ListN.{length, take, drop, replicate};
+ghost use Rattle.octets.specs.Octets.{put, same};
 ghost use Rattle.aes.specs.Cipher.{cipher};
 ghost use Rattle.aes.specs.Engine.{Ready};
 ghost use Rattle.header.specs.Header.{total, strings};
 ghost use Rattle.s2v.specs.S2v.{s2v};
-ghost use Rattle.siv.specs.Calls.{isKeyLength, Usable};
+ghost use Rattle.siv.specs.Answer.{outcomeOf, success, withoutLength};
+ghost use Rattle.siv.specs.Calls.{isKeyLength, scratchNeed, Usable};
+ghost use Rattle.siv.specs.Ring.{slotKey, firstSlot};
 ghost use Rattle.siv.specs.Siv.{tagOf, streamed, sealed, opened, genuine};
+use crate::Answer;
+use crate::Refusal;
 use crate::TAG_LEN;
+use crate::judge;
 use aes::Engine;
 use aes::RoundKeys;
 use octets::Block;
@@ -70,6 +75,25 @@ pub(crate) fn seal_admitted(
 }
 
 // Opens to the front of scratch, and says whether the recomputed tag is the given one.
+fn opens(
+    engine: &Engine,
+    key: &[u8],
+    header: &[u8],
+    lens: &[u32],
+    v: Block,
+    ciphertext: &[u8],
+    scratch: &mut [u8],
+) -> bool
+    requires { ⌜ Ready (now engine) × Usable (now key) (now header) (now lens) × (length (now ciphertext) ≤ length (now scratch)) ⌝ }
+    ensures judged { λ r. ⌜ r ≡ same (tagOf (now (key .entry)) (strings (now (header .entry)) (now (lens .entry))) (streamed (now (key .entry)) v (now (ciphertext .entry)))) v ⌝ }
+    ensures text { λ _. ⌜ now (scratch .exit) ≡ put (now (scratch .entry)) 0 (streamed (now (key .entry)) v (now (ciphertext .entry))) ⌝ }
+{
+    stream(engine, key, v, ciphertext, scratch, 0);
+    let t = tag_of(engine, key, header, lens, &scratch[0..ciphertext.len()]);
+    octets::same_block(t, v)
+}
+
+// Opens under one key.
 pub(crate) fn open_admitted(
     key: &[u8],
     header: &[u8],
@@ -82,9 +106,63 @@ pub(crate) fn open_admitted(
     ensures text { λ _. ⌜ now (scratch .exit) ≡ put (now (scratch .entry)) 0 (opened (now (key .entry)) (now (sealed .entry))) ⌝ }
 {
     let engine = aes::engine();
-    let n = sealed.len() - TAG_LEN;
     let v = octets::load(sealed, 0);
-    stream(&engine, key, v, &sealed[TAG_LEN..], scratch, 0);
-    let t = tag_of(&engine, key, header, lens, &scratch[0..n]);
-    octets::same_block(t, v)
+    opens(&engine, key, header, lens, v, &sealed[TAG_LEN..], scratch)
+}
+
+// The first slot of a ring whose key opens, with its plaintext at the front of scratch; the number of slots if none does.
+pub(crate) fn first_slot(
+    key_len: usize,
+    slots: usize,
+    ring: &[u8],
+    header: &[u8],
+    lens: &[u32],
+    sealed: &[u8],
+    scratch: &mut [u8],
+) -> usize
+    requires { ⌜ (isKeyLength «key_len» ≡ true) × (slots * «key_len» ≡ length (now ring)) × (total (now lens) ≤ length (now header)) × (16 ≤ length (now sealed)) × (length (now sealed) ≤ 16 + length (now scratch)) ⌝ }
+    ensures found { λ r. ⌜ r ≡ firstSlot (λ i. genuine (slotKey «key_len» (now (ring .entry)) i) (strings (now (header .entry)) (now (lens .entry))) (now (sealed .entry))) 0 slots ⌝ }
+    ensures text { λ r. ⌜ (r < slots → now (scratch .exit) ≡ put (now (scratch .entry)) 0 (opened (slotKey «key_len» (now (ring .entry)) r) (now (sealed .entry)))) ⌝ }
+    ensures rest { λ _. ⌜ drop (length (now (sealed .entry)) - 16) (now (scratch .exit)) ≡ drop (length (now (sealed .entry)) - 16) (now (scratch .entry)) ⌝ }
+{
+    let engine = aes::engine();
+    let v = octets::load(sealed, 0);
+    let ciphertext = &sealed[TAG_LEN..];
+    let mut left = slots;
+    loop {
+        if left == 0 {
+            break slots;
+        }
+        let slot = slots - left;
+        let at = slot * key_len;
+        if opens(
+            &engine,
+            &ring[at..at + key_len],
+            header,
+            lens,
+            v,
+            ciphertext,
+            scratch,
+        ) {
+            break slot;
+        }
+        left -= 1;
+    }
+}
+
+// Ends an opening of n bytes: what scratch has of them to the front of output if it is genuine, or zeros; then zeros over the scratch.
+pub(crate) fn deliver(genuine: bool, n: usize, output: &mut [u8], scratch: &mut [u8]) -> Answer
+    requires { ⌜ (n ≤ length (now output)) × (scratchNeed n ≤ length (now scratch)) ⌝ }
+    ensures outcome { λ r. ⌜ outcomeOf r ≡ cond genuine (success n) (withoutLength 8) ⌝ }
+    ensures output { λ _. ⌜ now (output .exit) ≡ put (now (output .entry)) 0 (cond genuine (take n (now (scratch .entry))) (replicate n 0)) ⌝ }
+    ensures scratch { λ _. ⌜ now (scratch .exit) ≡ put (now (scratch .entry)) 0 (replicate (scratchNeed n) 0) ⌝ }
+{
+    if genuine {
+        octets::copy_at(output, 0, &scratch[0..n]);
+        octets::zero_at(scratch, 0, judge::scratch_need(n));
+        return Answer::Ok(n);
+    }
+    octets::zero_at(output, 0, n);
+    octets::zero_at(scratch, 0, judge::scratch_need(n));
+    Answer::Refused(Refusal::Forged)
 }

@@ -1,25 +1,25 @@
 -- `siv::open` meets its contract.
 -- Assumes nothing.
-use mathlib.Core.Path.{_≡_, ap, sym, _∙_}
+use mathlib.Core.Path.{_≡_, sym}
+use Prim.Native.Nat.{_-_}
 use native.Mathlib.Omega.{arith}
-use lib.ListN.{length-take}
+use lib.ListN.{length}
 use borrow.Author.Needs.{needs}
-use Rattle.octets.specs.Octets.{put}
-use Rattle.siv.specs.Answer.{Outcome}
-use Rattle.siv.proofs.Laws.{told-refused, told-ok, openJudged, OpenAdmits, open-admits, open-refused, open-done, open-forged, text-read, scratch-wiped}
+use Rattle.siv.specs.Siv.{opened}
+use Rattle.siv.proofs.Laws.{told-refused, passed, openJudged, OpenAdmits, open-admits, open-refused, open-delivered, length-opened, put-rest, text-read, scratch-wiped}
 use Rattle.siv.proofs.open.Statement.{statement}
 use Rattle.siv.proofs.open.Tie as tie
 
 -- past the refusals none but 8 was due
-passed : (c : tie.At-match-keys2)
+judged : (c : tie.At-match-keys2)
     → let a = c .before .before .before .before .before .before .before .before .args in
     openJudged (a .key .now) (a .header .now) (a .lens .now) (a .input .now) (a .output .now) (a .scratch .now) ≡ 0
-passed c = sym (ap (λ (o : Outcome). o .number) (c .before .judge-open .ensures)) ∙ told-ok (c .before .judge-open .result) (c .match .keys2)
+judged c = passed (c .before .judge-open .result) _ (c .match .keys2) (c .before .judge-open .ensures)
 
 admits : (c : tie.At-match-keys2)
     → let a = c .before .before .before .before .before .before .before .before .args in
     OpenAdmits (a .key .now) (a .header .now) (a .lens .now) (a .input .now) (a .output .now) (a .scratch .now)
-admits c = open-admits _ _ _ _ _ _ (passed c)
+admits c = open-admits _ _ _ _ _ _ (judged c)
 
 judge-open-requires : tie.Need-judge-open-requires
 judge-open-requires c κs = search needs
@@ -33,31 +33,18 @@ returns c = open-refused _ _ _ _ _ _ _ (told-refused (c .before .before .judge-o
 enum-told-2 : tie.Need-enum-told-2
 enum-told-2 c = search needs
 
-sub-n : tie.Need-sub-n
-sub-n c = omega (arith, admits (c .before) .tagged)
-
 open-admitted-requires : tie.Need-open-admitted-requires
 open-admitted-requires c κs =
     let a = admits (c .before .before) in
     ((a .keyed, omega (arith, a .listed)), a .tagged, omega (arith, a .scratchy))
 
-sub-copy-at : tie.Need-sub-copy-at
-sub-copy-at c = search needs
+sub-deliver : tie.Need-sub-deliver
+sub-deliver c = admits (c .before .before .before .before .before) .tagged
 
-part-copy-at-start : tie.Need-part-copy-at-start
-part-copy-at-start c = search needs
-
-part-copy-at-end : tie.Need-part-copy-at-end
-part-copy-at-end c = omega (arith, admits (c .before .before .before .before .before .before .before .before) .scratchy, c .before .before .before .before .before .open-admitted .kept .1 .1 .1 .1 .0)
-
-copy-at-requires : tie.Need-copy-at-requires
-copy-at-requires c κs = simp length-take (omega (arith, admits (c .before .before .before .before .before .before .before .before .before) .roomy))
-
-scratch-need-requires : tie.Need-scratch-need-requires
-scratch-need-requires c κs = search needs
-
-zero-at-requires : tie.Need-zero-at-requires
-zero-at-requires c κs = omega (arith, admits (c .before .before .before .before .before .before .before .before .before .before .before .before .before .before) .scratchy, c .before .before .before .before .before .before .before .before .before .before .before .open-admitted .kept .1 .1 .1 .1 .0, c .scratch-need .ensures)
+deliver-requires : tie.Need-deliver-requires
+deliver-requires c κs =
+    let a = admits (c .before .before .before .before .before .before .before) in
+    (a .roomy, omega (arith, a .scratchy, c .before .before .before .before .open-admitted .kept .1 .1 .1 .1 .0))
 
 same-length : tie.Need-same-length
 same-length c = search needs
@@ -67,39 +54,18 @@ same-length-2 c = search needs
 
 returns-2 : tie.Need-returns-2
 returns-2 c =
-    let judged = c .before .before .before .before .before .before .before .before .before .before .before .before .before .before .before .before .before in
-    let args = judged .before .before .before .before .before .before .before .before .args in
-    let a = admits judged in
-    let opening = c .before .before .before .before .before .before .before .before .before .before .before .before .before .before .open-admitted .ensures in
-    open-done _ _ _ _ _ _ _ _ (passed judged)
-    (scratch-wiped (args .key .now) (args .input .now) (args .scratch .now) _ (opening .1) (c .before .before .before .scratch-need .ensures) (c .before .before .zero-at .ensures))
-    (sym (opening .0) ∙ c .before .before .before .before .before .before .before .before .before .before .before .if1 .taken)
-    (c .before .before .before .before .before .before .before .copy-at .ensures ∙ ap (put (args .output .now) 0) (text-read (args .key .now) (args .input .now) (args .scratch .now) (opening .1) (omega (arith, a .scratchy))))
-
-zero-at-requires-2 : tie.Need-zero-at-requires-2
-zero-at-requires-2 c κs = omega (arith, admits (c .before .before .before .before .before .before .before) .roomy)
-
-scratch-need-requires-2 : tie.Need-scratch-need-requires-2
-scratch-need-requires-2 c κs = search needs
-
-zero-at-requires-3 : tie.Need-zero-at-requires-3
-zero-at-requires-3 c κs = omega (arith, admits (c .before .before .before .before .before .before .before .before .before .before .before .before) .scratchy, c .before .before .before .before .before .before .before .before .before .open-admitted .kept .1 .1 .1 .1 .0, c .scratch-need2 .ensures)
-
-same-length-3 : tie.Need-same-length-3
-same-length-3 c = search needs
-
-same-length-4 : tie.Need-same-length-4
-same-length-4 c = search needs
-
-returns-3 : tie.Need-returns-3
-returns-3 c =
-    let judged = c .before .before .before .before .before .before .before .before .before .before .before .before .before .before .before in
-    let args = judged .before .before .before .before .before .before .before .before .args in
-    let opening = c .before .before .before .before .before .before .before .before .before .before .before .before .open-admitted .ensures in
-    open-forged _ _ _ _ _ _ _ _ (passed judged)
-    (scratch-wiped (args .key .now) (args .input .now) (args .scratch .now) _ (opening .1) (c .before .before .before .scratch-need2 .ensures) (c .before .before .zero-at3 .ensures))
-    (sym (opening .0) ∙ c .before .before .before .before .before .before .before .before .before .if1 .left)
-    (c .before .before .before .before .before .before .before .zero-at2 .ensures)
+    let done = c .before .before .before .before in
+    let opening = done .before .before .before .before .before in
+    let matched = opening .before .before .before in
+    let args = matched .before .before .before .before .before .before .before .before .args in
+    let key = args .key .now in
+    let y = args .input .now in
+    let text = opened key y in
+    let long : length text ≡ length y - 16 = length-opened key y in
+    let used = opening .open-admitted .last .1 .1 .1 .1 .0 in
+    open-delivered _ _ _ _ _ _ (opening .open-admitted .result) (sym (opening .open-admitted .ensures .0)) (judged matched) (done .deliver .result) _ _ _ (done .deliver .ensures .0)
+    (λ _. text-read text (args .scratch .now) (opening .open-admitted .ensures .1) (sym long) (omega (arith, long, admits matched .scratchy))) (done .deliver .ensures .1 .0)
+    (scratch-wiped (args .scratch .now) used (length y - 16) (put-rest (args .scratch .now) text (opening .open-admitted .ensures .1) (sym long)) (done .deliver .ensures .1 .1))
 
 pub open-spec : {M : Type 1} → statement M
 open-spec =
@@ -109,20 +75,9 @@ open-spec =
     enum-told
     returns
     enum-told-2
-    sub-n
     open-admitted-requires
-    sub-copy-at
-    part-copy-at-start
-    part-copy-at-end
-    copy-at-requires
-    scratch-need-requires
-    zero-at-requires
+    sub-deliver
+    deliver-requires
     same-length
     same-length-2
-    returns-2
-    zero-at-requires-2
-    scratch-need-requires-2
-    zero-at-requires-3
-    same-length-3
-    same-length-4
-    returns-3)
+    returns-2)

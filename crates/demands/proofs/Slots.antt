@@ -1,0 +1,54 @@
+-- What an opening under a ring of keys comes to, in the table's terms and from C.
+-- Assumes nothing.
+use mathlib.Core.Path.{_≡_, refl, ap, ap₂, sym, subst, _∙_}
+use mathlib.Core.Bool.{Bool, true, false, not, false≢true, cond, _&&_, and-false}
+use mathlib.Core.List.{List, [], _∷_, _++_}
+use Prim.Native.Nat.{ℕ, zero, suc, _<_}
+use native.Mathlib.Decide.{ℕ-discrete}
+use native.Mathlib.Omega.{arith}
+use lib.Dec.{eqb, ltb}
+use lib.ListN.{length}
+use borrow.Author.Tests.{eqb-true, eqb-false, ltb-true, ltb-false}
+use Rattle.siv.specs.Answer.{row, first}
+use Rattle.siv.specs.Calls.{isKeyLength}
+use Rattle.siv.specs.Ring.{isRing, ringRows, openRing}
+use Rattle.siv.proofs.Ring.{Given, found, none, Settled, settled, settles}
+use Rattle.kinphlor.specs.Interface.{aeadLens, emptyNonceRing, openRingFromC}
+use Rattle.demands.specs.First.{noSlot}
+
+noSlot-none : (test : ℕ → Bool) (n : ℕ) → ((i : ℕ) → i < n → test i ≡ false) → noSlot test n ≡ true
+noSlot-none test zero p = refl
+noSlot-none test (suc n) p = ap₂ _&&_ (ap not (p n (omega arith))) (noSlot-none test n (λ i h. p i (omega arith)))
+
+noSlot-found : (test : ℕ → Bool) (n i : ℕ) → i < n → test i ≡ true → noSlot test n ≡ false
+noSlot-found test zero i h t = absurd (omega arith)
+noSlot-found test (suc n) i h t = go (ℕ-discrete i n) (noSlot-found test n i)
+  where
+    go : Dec (i ≡ n) → (i < n → test i ≡ true → noSlot test n ≡ false) → (not (test n) && noSlot test n) ≡ false
+    go (yes e) ih = ap (λ (b : Bool). not b && noSlot test n) (ap test (sym e) ∙ t)
+    go (no e) ih = ap (λ (b : Bool). not (test n) && b) (ih (omega arith) t) ∙ and-false (not (test n))
+
+-- no slot passes exactly when the slot given does not
+pub given-noSlot : (test : ℕ → Bool) (n : ℕ) {s : ℕ} → 0 < n → Given test n s → not (test s) ≡ noSlot test n
+given-noSlot test n z (found {s} h t p) = ap not t ∙ sym (noSlot-found test n s h t)
+given-noSlot test n z (none p) = ap not (p 0 z) ∙ sym (noSlot-none test n p)
+
+-- ---- the C interface
+
+module _ (keyLength : ℕ) (ring header input output scratch : List ℕ) (ad nonce : ℕ) where
+  pub ring-settles-from-c : Settled keyLength ring header (aeadLens ad nonce) input output scratch (first (ringRows keyLength (length ring) ++ (row 10 (eqb nonce 0) ∷ [])))
+      (openRingFromC keyLength ring header ad nonce input output scratch)
+  unfolding openRingFromC emptyNonceRing openRing
+  ring-settles-from-c =
+      subst (Settled keyLength ring header (aeadLens ad nonce) input output scratch number) (sym (go (isKeyLength keyLength) refl (isRing keyLength (length ring)) refl (eqb nonce 0) refl))
+      (settles keyLength ring header (aeadLens ad nonce) input output scratch number)
+    where
+      number : ℕ
+      number = first (ringRows keyLength (length ring) ++ (row 10 (eqb nonce 0) ∷ []))
+
+      go : (a : Bool) → isKeyLength keyLength ≡ a → (b : Bool) → isRing keyLength (length ring) ≡ b → (c : Bool) → eqb nonce 0 ≡ c
+          → openRingFromC keyLength ring header ad nonce input output scratch ≡ settled keyLength ring header (aeadLens ad nonce) input output scratch number
+      go false e b f c g = simp e
+      go true e false f c g = simp (e, f)
+      go true e true f true g = simp (e, f, g)
+      go true e true f false g = simp (e, f, g)

@@ -1,0 +1,312 @@
+-- Laws of a ring of keys.
+-- Assumes nothing.
+use mathlib.Core.Path.{_≡_, refl, ap, sym, subst, _∙_}
+use mathlib.Core.Bool.{Bool, true, false, false≢true, cond, _||_, or-true}
+use mathlib.Core.List.{List, _++_}
+use Prim.Native.Nat.{ℕ, zero, suc, _+_, _-_, _*_, _≤_, _<_}
+use native.Mathlib.Decide.{ℕ-discrete, decLt}
+use native.Mathlib.Nat.{sub-zero, div-eq-of-eq-mul-left, mul-le-mul-right}
+use native.Mathlib.Omega.{arith}
+use lib.Dec.{eqb, ltb}
+use lib.ListN.{length, drop, length-take, length-drop}
+use borrow.Author.Tests.{eqb-true, eqb-false, eq-eqb, ne-eqb, ltb-true, ltb-false}
+use Rattle.header.specs.Header.{strings}
+use Rattle.siv.specs.declared.Answer.{Answer}
+use Rattle.siv.specs.declared.RingAnswer.{RingAnswer}
+use Rattle.siv.specs.Answer.{Outcome, Row, first, outcomeOf, withoutLength}
+use Rattle.siv.specs.Calls.{isKeyLength, limit, headerRows, openRows, DidCall}
+use Rattle.siv.specs.Ring.{isRing, slots, slotKey, firstSlot, ringRows, RingResult, refusedRing, DidRing, openSlot, openRing}
+use Rattle.siv.specs.Siv.{genuine}
+use Rattle.siv.proofs.Laws.{first-none, first-pass, first-stop, openJudged, open-due, open-count, open-number, open-refused}
+
+-- ---- lengths
+
+pub key-length-some : (n : ℕ) → isKeyLength n ≡ true → 0 < n
+unfolding isKeyLength
+key-length-some zero e = absurd (false≢true e)
+key-length-some (suc n) e = omega arith
+
+-- a ring is one to four slots, and nothing behind them
+pub record RingWhole (keyLength n : ℕ) : Type 0 where
+  pub whole : slots keyLength n * keyLength ≡ n
+  pub some : 1 ≤ slots keyLength n
+  pub most : slots keyLength n ≤ 4
+
+pub ring-whole : (keyLength n : ℕ) → 0 < keyLength → isRing keyLength n ≡ true → RingWhole keyLength n
+unfolding isRing
+ring-whole keyLength n k r =
+    go (eqb n keyLength) (eqb n (2 * keyLength)) (eqb n (3 * keyLength)) (eqb-true n keyLength) (eqb-true n (2 * keyLength)) (eqb-true n (3 * keyLength)) r
+  where
+    at : (s : ℕ) → n ≡ s * keyLength → 1 ≤ s → s ≤ 4 → RingWhole keyLength n
+    at s e some most =
+        let count : slots keyLength n ≡ s = div-eq-of-eq-mul-left k e in
+        record { whole = ap (λ (m : ℕ). m * keyLength) count ∙ sym e; some = omega arith; most = omega arith }
+
+    go : (a b c : Bool) → (a ≡ true → n ≡ keyLength) → (b ≡ true → n ≡ 2 * keyLength) → (c ≡ true → n ≡ 3 * keyLength) → (a || b || c || eqb n (4 * keyLength)) ≡ true
+        → RingWhole keyLength n
+    go true b c f g h t = at 1 (omega (arith, f refl)) (omega arith) (omega arith)
+    go false true c f g h t = at 2 (g refl) (omega arith) (omega arith)
+    go false false true f g h t = at 3 (h refl) (omega arith) (omega arith)
+    go false false false f g h t = at 4 (eqb-true n (4 * keyLength) t) (omega arith) (omega arith)
+
+pub whole-ring : (keyLength slots′ n : ℕ) → 0 < keyLength → n ≡ slots′ * keyLength → 1 ≤ slots′ → slots′ ≤ 4 → (isRing keyLength n ≡ true) × (slots keyLength n ≡ slots′)
+unfolding isRing
+whole-ring keyLength slots′ n k e some most = (go slots′ e some most, div-eq-of-eq-mul-left k e)
+  where
+    go : (s : ℕ) → n ≡ s * keyLength → 1 ≤ s → s ≤ 4 → isRing keyLength n ≡ true
+    go zero e some most = absurd (omega arith)
+    go (suc zero) e some most = simp (eq-eqb n keyLength (omega arith))
+    go (suc (suc zero)) e some most = simp (eq-eqb n (2 * keyLength) e, or-true)
+    go (suc (suc (suc zero))) e some most = simp (eq-eqb n (3 * keyLength) e, or-true)
+    go (suc (suc (suc (suc zero)))) e some most = simp (eq-eqb n (4 * keyLength) e, or-true)
+    go (suc (suc (suc (suc (suc s))))) e some most = absurd (omega arith)
+
+-- a length that is no ring's
+pub no-ring : (keyLength n : ℕ) → 0 < keyLength → (RingWhole keyLength n → ⊥) → isRing keyLength n ≡ false
+no-ring keyLength n k h = go (isRing keyLength n) refl
+  where
+    go : (t : Bool) → isRing keyLength n ≡ t → isRing keyLength n ≡ false
+    go true e = absurd (h (ring-whole keyLength n k e))
+    go false e = e
+
+-- what the refusals of the stated length and the ring leave
+pub ring-admits : (keyLength n : ℕ) → first (ringRows keyLength n) ≡ 0 → (isKeyLength keyLength ≡ true) × RingWhole keyLength n
+ring-admits keyLength n e = go (isKeyLength keyLength) refl (isRing keyLength n) refl
+  where
+    due : eqb (first (ringRows keyLength n)) 0 ≡ false → ⊥
+    due d = false≢true (sym d ∙ eq-eqb (first (ringRows keyLength n)) 0 e)
+
+    go : (a : Bool) → isKeyLength keyLength ≡ a → (b : Bool) → isRing keyLength n ≡ b → (isKeyLength keyLength ≡ true) × RingWhole keyLength n
+    go true p true q = (p, ring-whole keyLength n (key-length-some keyLength p) q)
+    go true p false q = absurd (due (simp (p, q)))
+    go false p true q = absurd (due (simp (p, q)))
+    go false p false q = absurd (due (simp (p, q)))
+
+pub slot-within : (i slots′ keyLength : ℕ) → i < slots′ → i * keyLength + keyLength ≤ slots′ * keyLength
+slot-within i slots′ keyLength h = omega (arith, mul-le-mul-right keyLength h)
+
+pub length-slotKey : (keyLength : ℕ) (ring : List ℕ) (i : ℕ) → i * keyLength + keyLength ≤ length ring → length (slotKey keyLength ring i) ≡ keyLength
+length-slotKey keyLength ring i h = simp (length-take, length-drop) (omega (arith, h))
+
+-- the key of a ring's slot is a key
+pub slot-keyed : (keyLength slots′ : ℕ) (ring : List ℕ) (i : ℕ) → isKeyLength keyLength ≡ true → length ring ≡ slots′ * keyLength → i < slots′
+    → isKeyLength (length (slotKey keyLength ring i)) ≡ true
+slot-keyed keyLength slots′ ring i k e h =
+    ap isKeyLength (length-slotKey keyLength ring i (omega (arith, slot-within i slots′ keyLength h))) ∙ k
+
+-- ---- the first slot that passes a test
+
+-- a slot that is not the one after them passes
+pub firstSlot-found : (test : ℕ → Bool) (i n : ℕ) → firstSlot test i n < i + n → test (firstSlot test i n) ≡ true
+firstSlot-found test i zero h = absurd (omega arith)
+firstSlot-found test i (suc n) h = go (test i) refl (firstSlot-found test (suc i) n) h
+  where
+    go : (t : Bool) → test i ≡ t → (firstSlot test (suc i) n < suc i + n → test (firstSlot test (suc i) n) ≡ true) → cond t i (firstSlot test (suc i) n) < i + suc n
+        → test (cond t i (firstSlot test (suc i) n)) ≡ true
+    go true e ih h = e
+    go false e ih h = ih (omega arith)
+
+-- no slot before it passes
+pub firstSlot-passed : (test : ℕ → Bool) (i n j : ℕ) → i ≤ j → j < firstSlot test i n → test j ≡ false
+firstSlot-passed test i zero j l h = absurd (omega arith)
+firstSlot-passed test i (suc n) j l h = go (test i) refl (firstSlot-passed test (suc i) n j) h (ℕ-discrete j i)
+  where
+    go : (t : Bool) → test i ≡ t → (suc i ≤ j → j < firstSlot test (suc i) n → test j ≡ false) → j < cond t i (firstSlot test (suc i) n) → Dec (j ≡ i) → test j ≡ false
+    go true e ih h d = absurd (omega arith)
+    go false e ih h (yes p) = ap test p ∙ e
+    go false e ih h (no p) = ih (omega arith) h
+
+-- ---- the search for it
+
+-- how far the search is where so many slots are left: none before them passed, and of the scratch only the first n bytes were used
+pub record Searching (test : ℕ → Bool) (count n : ℕ) (scratch used : List ℕ) (left : ℕ) : Type 0 where
+  pub few : left ≤ count
+  pub long : length used ≡ length scratch
+  pub rest : drop n used ≡ drop n scratch
+  pub first : firstSlot test (count - left) left ≡ firstSlot test 0 count
+
+module _ (test : ℕ → Bool) (count n : ℕ) (scratch : List ℕ) where
+  pub searching-none : Searching test count n scratch scratch count
+  searching-none = record { few = omega arith; long = refl; rest = refl; first = ap (λ (i : ℕ). firstSlot test i count) (omega arith) }
+
+  pub searching-more : (used used′ : List ℕ) (left : ℕ) → Searching test count n scratch used left → (left ≡ 0 → ⊥) → test (count - left) ≡ false
+      → length used′ ≡ length used → drop n used′ ≡ drop n used → Searching test count n scratch used′ (left - 1)
+  searching-more used used′ zero s z t l r = absurd (z refl)
+  searching-more used used′ (suc left) s z t l r =
+      let less : suc left - 1 ≡ left = omega arith in
+      let next : suc (count - suc left) ≡ count - left = omega (arith, s .few) in
+      record {
+        few = omega (arith, s .few);
+        long = l ∙ s .long;
+        rest = r ∙ s .rest;
+        first = ap (λ (m : ℕ). firstSlot test (count - m) m) less ∙ sym (ap (λ (i : ℕ). firstSlot test i left) next) ∙ sym (ap (λ (b : Bool). cond b (count - suc left) (firstSlot test (suc (count - suc left)) left)) t) ∙ s .first;
+      }
+
+  pub searching-found : (used : List ℕ) (left : ℕ) → Searching test count n scratch used left → (left ≡ 0 → ⊥) → test (count - left) ≡ true
+      → count - left ≡ firstSlot test 0 count
+  searching-found used zero s z t = absurd (z refl)
+  searching-found used (suc left) s z t =
+      sym (ap (λ (b : Bool). cond b (count - suc left) (firstSlot test (suc (count - suc left)) left)) t) ∙ s .first
+
+  pub searching-all : (used : List ℕ) → Searching test count n scratch used 0 → count ≡ firstSlot test 0 count
+  searching-all used s = sym (sub-zero count) ∙ s .first
+
+-- ---- the slot that is given
+
+-- the first of n slots that passes a test, or slot 0 where none does
+pub data Given (test : ℕ → Bool) (n : ℕ) : ℕ → Type 0 where
+  found : {s : ℕ} → s < n → test s ≡ true → ((i : ℕ) → i < s → test i ≡ false) → Given test n s
+  none : ((i : ℕ) → i < n → test i ≡ false) → Given test n 0
+
+module _ (test : ℕ → Bool) (n : ℕ) where
+  pub given-found : {s : ℕ} → s ≡ firstSlot test 0 n → s < n → Given test n s
+  given-found e h =
+      found h (ap test e ∙ firstSlot-found test 0 n (omega (arith, e))) (λ i l. firstSlot-passed test 0 n i (omega arith) (omega (arith, e)))
+
+  pub given-none : n ≤ firstSlot test 0 n → Given test n 0
+  given-none h = none (λ i l. firstSlot-passed test 0 n i (omega arith) (omega arith))
+
+  given : let f = firstSlot test 0 n in
+      Given test n (cond (ltb f n) f 0)
+  given = go (ltb (firstSlot test 0 n) n) refl
+    where
+      go : (t : Bool) → ltb (firstSlot test 0 n) n ≡ t → Given test n (cond t (firstSlot test 0 n) 0)
+      go true e = given-found refl (ltb-true (firstSlot test 0 n) n e)
+      go false e = given-none (ltb-false (firstSlot test 0 n) n e)
+
+  pub given-within : {s : ℕ} → 0 < n → Given test n s → s < n
+  given-within z (found h t p) = h
+  given-within z (none p) = z
+
+  -- a slot given that does not pass is slot 0
+  pub given-closed : {s : ℕ} → Given test n s → test s ≡ false → s ≡ 0
+  given-closed (found h t p) e = absurd (false≢true (sym e ∙ t))
+  given-closed (none p) e = refl
+
+  -- tests that agree on the slots give the same one
+  pub given-same : {s : ℕ} (test′ : ℕ → Bool) → ((i : ℕ) → i < n → test i ≡ test′ i) → Given test n s → Given test′ n s
+  given-same test′ same (found {s} h t p) = found h (sym (same s h) ∙ t) (λ i l. sym (same i (omega arith)) ∙ p i l)
+  given-same test′ same (none p) = none (λ i h. sym (same i h) ∙ p i h)
+
+  -- there is one such slot
+  pub given-one : {s s′ : ℕ} → Given test n s → Given test n s′ → s ≡ s′
+  given-one (found {s} h t p) (found {s = s′} h′ t′ p′) = go (decLt s s′) (decLt s′ s)
+    where
+      go : Dec (s < s′) → Dec (s′ < s) → s ≡ s′
+      go (yes l) d = absurd (false≢true (sym (p′ s l) ∙ t))
+      go (no l) (yes l′) = absurd (false≢true (sym (p s′ l′) ∙ t′))
+      go (no l) (no l′) = omega arith
+  given-one (found {s} h t p) (none q) = absurd (false≢true (sym (q s h) ∙ t))
+  given-one (none q) (found {s} h t p) = absurd (false≢true (sym (q s h) ∙ t))
+  given-one (none p) (none q) = refl
+
+-- ---- the call
+
+module _ (keyLength : ℕ) (ring bytes lens input output scratch : List ℕ) where
+  -- whether the key of slot i opens
+  abbrev pub opensAt : ℕ → Bool
+  opensAt i = eqb (openSlot keyLength ring bytes lens input output scratch i .outcome .number) 0
+
+  abbrev pub withSlot : ℕ → RingResult
+  withSlot s = record { slot = s; call = openSlot keyLength ring bytes lens input output scratch s }
+
+  -- what the call comes to where n is the number of the refusals that judge the ring
+  pub data Settled (n : ℕ) : RingResult → Type 0 where
+    goes : {s : ℕ} → n ≡ 0 → Given opensAt (slots keyLength (length ring)) s → Settled n (withSlot s)
+    stops : (n ≡ 0 → ⊥) → Settled n (refusedRing n output scratch)
+
+  abbrev pub settled : ℕ → RingResult
+  settled n =
+      let count = slots keyLength (length ring) in
+      let f = firstSlot opensAt 0 count in
+      cond (eqb n 0) (withSlot (cond (ltb f count) f 0)) (refusedRing n output scratch)
+
+  pub settles : (n : ℕ) → Settled n (settled n)
+  settles n = go (eqb n 0) refl
+    where
+      go : (t : Bool) → eqb n 0 ≡ t
+          → let count = slots keyLength (length ring) in
+          let f = firstSlot opensAt 0 count in
+          Settled n (cond t (withSlot (cond (ltb f count) f 0)) (refusedRing n output scratch))
+      go true e = goes (eqb-true n 0 e) (given opensAt (slots keyLength (length ring)))
+      go false e = stops (eqb-false n 0 e)
+
+  pub ring-settles : Settled (first (ringRows keyLength (length ring))) (openRing keyLength ring bytes lens input output scratch)
+  unfolding openRing
+  ring-settles = settles (first (ringRows keyLength (length ring)))
+
+-- ---- the call's judgement
+
+module _ (keyLength : ℕ) (ring bytes lens input output scratch : List ℕ) where
+  -- the rows behind the ring's
+  abbrev restRows : List Row
+  restRows = headerRows keyLength lens (length bytes) ++ openRows (length input) (length output) (length scratch)
+
+  -- the numbers that the judgement gives, with the ring's rows and behind them
+  abbrev pub ringJudged : ℕ
+  ringJudged = first (ringRows keyLength (length ring) ++ restRows)
+
+  abbrev pub restJudged : ℕ
+  restJudged = first restRows
+
+  pub ring-judged : ringJudged ≡ 0 → (first (ringRows keyLength (length ring)) ≡ 0) × (restJudged ≡ 0)
+  ring-judged e = first-none (ringRows keyLength (length ring)) restRows refl e
+
+  -- with any slot's key the judgement is the same
+  slot-judged : first (ringRows keyLength (length ring)) ≡ 0 → (i : ℕ) → i < slots keyLength (length ring)
+      → openJudged (slotKey keyLength ring i) bytes lens input output scratch ≡ restJudged
+  slot-judged z i h =
+      ap (λ (m : ℕ). first (headerRows m lens (length bytes) ++ openRows (length input) (length output) (length scratch)))
+      (length-slotKey keyLength ring i (omega (arith, slot-within i (slots keyLength (length ring)) keyLength h, ring-admits keyLength (length ring) z .1 .whole)))
+
+  pub slot-passed : ringJudged ≡ 0 → (i : ℕ) → i < slots keyLength (length ring) → openJudged (slotKey keyLength ring i) bytes lens input output scratch ≡ 0
+  slot-passed e i h = slot-judged (ring-judged e .0) i h ∙ ring-judged e .1
+
+  -- a refusal of the judgement is the ring's
+  pub ring-refused : (answer : Answer) → (outcomeOf answer .number ≡ 0 → ⊥) → outcomeOf answer ≡ withoutLength ringJudged
+      → DidRing (openRing keyLength ring bytes lens input output scratch) (record { answer = answer; slot = 0 }) output scratch
+  ring-refused answer k e = go (ring-settles keyLength ring bytes lens input output scratch)
+    where
+      go : {result : RingResult} → Settled keyLength ring bytes lens input output scratch (first (ringRows keyLength (length ring))) result
+          → DidRing result (record { answer = answer; slot = 0 }) output scratch
+      go (stops z) =
+          record {
+            slot = refl;
+            call = record { outcome = e ∙ ap withoutLength (first-stop (ringRows keyLength (length ring)) restRows z); output = refl; scratch = refl };
+          }
+      go (goes {s} z g) =
+          let pass : ringJudged ≡ restJudged = first-pass (ringRows keyLength (length ring)) restRows refl z in
+          let judged = slot-judged z s (given-within _ _ (ring-admits keyLength (length ring) z .1 .some) g) in
+          let due : openJudged (slotKey keyLength ring s) bytes lens input output scratch ≡ 0 → ⊥ = λ y. k (ap (λ (o : Outcome). o .number) e ∙ pass ∙ sym judged ∙ y) in
+          let closed : opensAt keyLength ring bytes lens input output scratch s ≡ false =
+          ne-eqb (openSlot keyLength ring bytes lens input output scratch s .outcome .number) 0 (λ y. due (sym (open-due (slotKey keyLength ring s) bytes lens input output scratch due) ∙ y)) in
+          record { slot = sym (given-closed _ _ g closed); call = open-refused (slotKey keyLength ring s) bytes lens input output scratch answer k (e ∙ ap withoutLength (pass ∙ sym judged)) }
+
+  -- past the judgement a slot's key opens where the string is genuine under it
+  pub ring-tried : ringJudged ≡ 0 → (given : RingAnswer) (last last′ : List ℕ)
+      → Given (λ i. genuine (slotKey keyLength ring i) (strings bytes lens) input) (slots keyLength (length ring)) (given .slot)
+      → DidCall (openSlot keyLength ring bytes lens input output scratch (given .slot)) (given .answer) last last′
+      → DidRing (openRing keyLength ring bytes lens input output scratch) given last last′
+  ring-tried e given last last′ g d = go (ring-settles keyLength ring bytes lens input output scratch)
+    where
+      go : {result : RingResult} → Settled keyLength ring bytes lens input output scratch (first (ringRows keyLength (length ring))) result → DidRing result given last last′
+      go (stops z) = absurd (z (ring-judged e .0))
+      go (goes {s} z g′) =
+          let opens = given-same _ _ (λ i. genuine (slotKey keyLength ring i) (strings bytes lens) input)
+          (λ i h. open-number (slotKey keyLength ring i) bytes lens input output scratch (slot-passed e i h)) g′ in
+          let at : given .slot ≡ s = given-one _ _ g opens in
+          record { slot = at; call = subst (λ (i : ℕ). DidCall (openSlot keyLength ring bytes lens input output scratch i) (given .answer) last last′) at d }
+
+  -- slot and length are small, so that both fit in one number with the answer's
+  pub ring-small : (given : RingAnswer) (last last′ : List ℕ) → DidRing (openRing keyLength ring bytes lens input output scratch) given last last′
+      → (given .slot ≤ 3) × (outcomeOf (given .answer) .count ≤ limit)
+  ring-small given last last′ d = go (ring-settles keyLength ring bytes lens input output scratch) (d .slot) (ap (λ (o : Outcome). o .count) (d .call .outcome))
+    where
+      go : {result : RingResult} → Settled keyLength ring bytes lens input output scratch (first (ringRows keyLength (length ring))) result → given .slot ≡ result .slot
+          → outcomeOf (given .answer) .count ≡ result .call .outcome .count → (given .slot ≤ 3) × (outcomeOf (given .answer) .count ≤ limit)
+      go (stops z) s n = (omega arith, omega arith)
+      go (goes {s = i} z g) s n =
+          let whole = ring-admits keyLength (length ring) z .1 in (
+            omega (arith, given-within (opensAt keyLength ring bytes lens input output scratch) (slots keyLength (length ring)) (whole .some) g, whole .most),
+            omega (arith, open-count (slotKey keyLength ring i) bytes lens input output scratch),
+          )
