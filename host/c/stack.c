@@ -5,23 +5,28 @@
 #include <ucontext.h>
 
 enum { ROOM = 1 << 18, LIMIT = 8192, PAINT = 0xa5, SIZES = 3 };
+enum { NONE, SEAL, OPEN, OPEN_RING };
 
 static unsigned char room[ROOM];
 static ucontext_t here, there;
-static uint8_t key[64], header[28], record[1 << 16], sealed[(1 << 16) + 16], scratch[1 << 16];
+static uint8_t key[64], ring[KINPHLOR_RING_MAX * 64], header[28], record[1 << 16], sealed[(1 << 16) + 16], scratch[1 << 16];
 static size_t key_len, record_len;
-static int calls, opening;
+static int function;
 static uint64_t answer;
 
 static void call(void)
 {
-    if (!calls) {
-        return;
-    }
-    if (opening) {
-        answer = kinphlor_open(key, key_len, header, 28, 16, 12, sealed, record_len + 16, record, record_len, scratch, sizeof scratch);
-    } else {
+    switch (function) {
+    case SEAL:
         answer = kinphlor_seal(key, key_len, header, 28, 16, 12, record, record_len, sealed, record_len + 16, scratch, sizeof scratch);
+        break;
+    case OPEN:
+        answer = kinphlor_open(key, key_len, header, 28, 16, 12, sealed, record_len + 16, record, record_len, scratch, sizeof scratch);
+        break;
+    case OPEN_RING:
+        answer = kinphlor_open_ring(key_len, ring, KINPHLOR_RING_MAX * key_len, header, 28, 16, 12, sealed, record_len + 16, record,
+                                    record_len, scratch, sizeof scratch);
+        break;
     }
 }
 
@@ -48,13 +53,15 @@ int main(void)
     static const size_t lengths[SIZES] = {0, 40, 1 << 16};
     size_t idle, most = 0;
 
-    calls = 0;
+    function = NONE;
     idle = taken();
-    calls = 1;
     for (key_len = 32; key_len <= 64; key_len += 16) {
+        /* the ring's last key is the record's */
+        memset(ring, 0, sizeof ring);
+        memset(ring, 1, (KINPHLOR_RING_MAX - 1) * key_len);
         for (int i = 0; i < SIZES; i++) {
             record_len = lengths[i];
-            for (opening = 0; opening < 2; opening++) {
+            for (function = SEAL; function <= OPEN_RING; function++) {
                 size_t n = taken() - idle;
 
                 if (kinphlor_number(answer) != KINPHLOR_OK) {
