@@ -12,17 +12,17 @@ pub fn describe(program: &str) -> String {
 
 fn table(program: &str) -> Result<Table, String> {
     valgrind(&["--version"])?;
-    let mut table = Table::new(&["key", "bytes", "seal", "a byte", "open", "a byte"]);
+    let mut table = Table::new(&["key", "bytes", "seal", "a byte", "open", "a byte", "ring of four", "four openings", "ratio"]);
     for key_len in KEY_LENS {
         for len in LENS {
             eprintln!("bench: callgrind, key of {key_len} bytes, {len} bytes");
-            let none = count(program, key_len, len, 0)?;
-            let seal = count(program, key_len, len, 1)?;
-            let both = count(program, key_len, len, 2)?;
+            let counts = (0..=4).map(|calls| count(program, key_len, len, calls)).collect::<Result<Vec<u64>, String>>()?;
+            let [seal, open, ring, four] = [1, 2, 3, 4].map(|calls| counts[calls] - counts[calls - 1]);
             let mut row = vec![key_len.to_string(), grouped(len as u64)];
-            for instructions in [seal - none, both - seal] {
+            for instructions in [seal, open] {
                 row.extend([grouped(instructions), rounded(instructions as f64 / len as f64)]);
             }
+            row.extend([grouped(ring), grouped(four), format!("{:.3}", ring as f64 / four as f64)]);
             table.rows.push(row);
         }
     }

@@ -6,6 +6,7 @@ mod machine;
 mod measure;
 mod pieces;
 mod report;
+mod ring;
 mod table;
 mod timing;
 
@@ -34,5 +35,6 @@ fn bench() {
     report.section("Stack", machine::stack("target/host/stack"));
     report.section("Instructions", callgrind::describe("target/host/once"));
     report.section("Pieces against the whole call", pieces::describe());
+    report.section("A ring against single calls", ring::describe());
     report.write("docs/BENCHMARKS.md");
 }

@@ -75,7 +75,7 @@ fn measure(call: &mut Call, peers: [Option<&dyn Peer>; 2], want: &[u8]) -> (f64,
         call.run(by);
         check::bytes(|| format!("{:?} by {}", call.function, by.map_or("us", |p| p.name())), want, &call.output);
     }
-    let times = turns(all.len(), &mut |which| call.run(all[which]));
+    let times = turns(TURNS, all.len(), &mut |which| call.run(all[which]));
     let mut rest = times[1..].iter();
     let theirs = peers.map(|peer| peer.and_then(|_| rest.next()).map(|t| beside(&times[0], t)));
     (median(times[0].iter().copied()), theirs)
@@ -128,10 +128,10 @@ fn time(run: &mut dyn FnMut(usize), which: usize, calls: usize) -> Duration {
 }
 
 /// The nanoseconds of a call in each turn, for each of several implementations; `run` calls the one of a number.
-pub fn turns(several: usize, run: &mut dyn FnMut(usize)) -> Vec<Vec<f64>> {
+pub fn turns(count: usize, several: usize, run: &mut dyn FnMut(usize)) -> Vec<Vec<f64>> {
     let counts: Vec<usize> = (0..several).map(|which| calls_for_a_sample(run, which)).collect();
     let mut times = vec![vec![]; several];
-    for _ in 0..TURNS {
+    for _ in 0..count {
         for (which, &calls) in counts.iter().enumerate() {
             times[which].push(time(run, which, calls).as_nanos() as f64 / calls as f64);
         }
@@ -147,7 +147,7 @@ fn calls_for_a_sample(run: &mut dyn FnMut(usize), which: usize) -> usize {
     calls
 }
 
-fn median(numbers: impl IntoIterator<Item = f64>) -> f64 {
+pub fn median(numbers: impl IntoIterator<Item = f64>) -> f64 {
     let mut sorted: Vec<f64> = numbers.into_iter().collect();
     sorted.sort_by(f64::total_cmp);
     sorted[sorted.len() / 2]

@@ -1,7 +1,7 @@
 //! Sealing and opening in pieces against the whole call, both by libprobe.a.
 
-use crate::measure::{beside, turns};
-use crate::table::{grouped, rounded, Table};
+use crate::measure::{beside, turns, TURNS};
+use crate::table::{grouped, rounded, target, Table};
 use shared::check;
 use shared::library::{Function, KEY_LENS};
 use shared::probe;
@@ -36,8 +36,7 @@ pub fn describe() -> String {
     let targets = TARGETS.map(|(len, piece, most)| {
         let largest = rows.iter().filter(|row| row.len == len).map(|row| row.ratios[piece]).fold(0.0, f64::max);
         let (len, piece) = (grouped(len as u64), grouped(PIECES[piece] as u64));
-        let met = if largest <= most { "met" } else { "not met" };
-        format!("- {len} bytes in pieces of {piece}: at most {most:.2}; the largest is {largest:.2}, so it is {met}.")
+        target(&format!("{len} bytes in pieces of {piece}"), most, largest, 2)
     });
     format!("{table}\nTargets:\n\n{}", targets.join("\n"))
 }
@@ -76,6 +75,6 @@ fn ratios(function: Function, given: &Given, want: &[u8]) -> [f64; 3] {
     for which in 0..=PIECES.len() {
         run(which);
     }
-    let times = turns(1 + PIECES.len(), &mut run);
+    let times = turns(TURNS, 1 + PIECES.len(), &mut run);
     [1, 2, 3].map(|which| beside(&times[which], &times[0]).ratio)
 }

@@ -43,6 +43,12 @@ pub fn grouped(number: u64) -> String {
     text
 }
 
+/// A target's line: what it is for, the most that the ratio may be, and the largest that there is, to so many digits.
+pub fn target(what: &str, most: f64, largest: f64, digits: usize) -> String {
+    let met = if largest <= most { "met" } else { "not met" };
+    format!("- {what}: at most {most:.2}; the largest is {largest:.digits$}, so it is {met}.")
+}
+
 /// Three digits or more.
 pub fn rounded(number: f64) -> String {
     match number {
