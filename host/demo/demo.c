@@ -21,6 +21,9 @@ enum {
     SEALED_LEN = KINPHLOR_TAG_LEN + RECORD_LEN
 };
 
+/* The slots of a ring while the gym's key changes. The new key is tried first: soon most records are under it. */
+enum { NEW, OLD, KEYS };
+
 struct lane {
     uint32_t gym;
     uint16_t wall, number;
@@ -68,6 +71,16 @@ static uint64_t open_record(const uint8_t key[KEY_LEN], struct lane lane, uint64
                          scratch, sizeof scratch);
 }
 
+/* Opens a record while the key changes, whichever key of the ring it was sealed under. */
+static uint64_t open_changing(const uint8_t ring[KEYS * KEY_LEN], struct lane lane, uint64_t number,
+                              const uint8_t sealed[SEALED_LEN], uint8_t record[RECORD_LEN]) {
+    uint8_t header[HEADER_LEN], scratch[RECORD_LEN];
+
+    make_header(header, lane, number);
+    return kinphlor_open_ring(KEY_LEN, ring, KEYS * KEY_LEN, header, HEADER_LEN, AD_LEN, NONCE_LEN, sealed, SEALED_LEN,
+                              record, RECORD_LEN, scratch, sizeof scratch);
+}
+
 /* Whether a result has this answer and this length. */
 static int is(uint64_t result, uint32_t number, uint32_t length) {
     return kinphlor_number(result) == number && kinphlor_length(result) == length;
@@ -78,11 +91,11 @@ static const char *colour(uint64_t result) {
     return is(result, KINPHLOR_OK, RECORD_LEN) ? "GREEN" : "AMBER";
 }
 
-/* Stands for reading the key from where the gym keeps it. A real key is never in a program's text. */
-static void load_key(uint8_t key[KEY_LEN]) {
+/* Stands for reading a key from where the gym keeps it. A real key is never in a program's text. */
+static void load_key(uint8_t key[KEY_LEN], unsigned which) {
     size_t i;
 
-    for (i = 0; i < KEY_LEN; i++) key[i] = (uint8_t)i;
+    for (i = 0; i < KEY_LEN; i++) key[i] = (uint8_t)(which * KEY_LEN + i);
 }
 
 /* Writes zeros that the compiler may not leave out, as it may with memset on memory that is not read again. */
@@ -97,6 +110,7 @@ static void wipe(uint8_t *bytes, size_t len) {
 enum { BLOCK_LEN = 16, BLOCKS = (RECORD_LEN + BLOCK_LEN - 1) / BLOCK_LEN, MOST_RECORDS = 4000000, FILL = 0xa5 };
 
 static const struct lane LANE = {412, 3, 7};
+static const uint8_t ZEROS[RECORD_LEN];
 
 static int failures = 0;
 
@@ -183,8 +197,15 @@ static void show_sealed(uint64_t number, const uint8_t sealed[SEALED_LEN]) {
     show("ciphertext", sealed + KINPHLOR_TAG_LEN, RECORD_LEN, "sent after the tag");
 }
 
+static void show_opened(const uint8_t opened[RECORD_LEN]) {
+    printf("  %-14s \"%.*s\"\n", "opened", RECORD_LEN, (const char *)opened);
+}
+
 static void show_answer(uint64_t result) {
     printf("  %-14s %u, %s\n", "answer", (unsigned)kinphlor_number(result), kinphlor_text(kinphlor_number(result)));
+}
+
+static void show_colour(uint64_t result) {
     printf("  %-14s %s\n\n", "the lane is", colour(result));
 }
 
@@ -203,13 +224,13 @@ static void show_record(const uint8_t key[KEY_LEN], uint64_t number, const char 
     result = open_record(key, LANE, number, sealed, opened);
     if (!must("a sealed record opens", is(result, KINPHLOR_OK, RECORD_LEN))) return;
     must("it opens to what was sealed", memcmp(opened, record, RECORD_LEN) == 0);
-    printf("  %-14s \"%.*s\"\n", "opened", RECORD_LEN, (const char *)opened);
+    show_opened(opened);
     show_answer(result);
+    show_colour(result);
 }
 
 /* The same record with one bit changed on its way. */
 static void show_damaged(const uint8_t key[KEY_LEN], uint64_t number, const uint8_t sealed[SEALED_LEN]) {
-    static const uint8_t zeros[RECORD_LEN];
     const size_t at = KINPHLOR_TAG_LEN + 5;
     uint8_t damaged[SEALED_LEN], opened[RECORD_LEN];
     uint64_t result;
@@ -226,8 +247,40 @@ static void show_damaged(const uint8_t key[KEY_LEN], uint64_t number, const uint
     result = open_record(key, LANE, number, damaged, opened);
     show("output after", opened, RECORD_LEN, "wiped: no byte of it can be used");
     must("a damaged record is refused with 8", is(result, KINPHLOR_FORGED, 0));
-    must("its output is zeros", memcmp(opened, zeros, RECORD_LEN) == 0);
+    must("its output is zeros", memcmp(opened, ZEROS, RECORD_LEN) == 0);
     show_answer(result);
+    show_colour(result);
+}
+
+/* Seals a record under a key and opens it under the ring, which has this key in that slot, or not at all for KEYS. */
+static void show_changing(const uint8_t ring[KEYS * KEY_LEN], const uint8_t key[KEY_LEN], uint32_t slot,
+                          uint64_t number, const char *why) {
+    static const char *const names[KEYS] = {"the new key", "the old key"};
+    uint8_t record[RECORD_LEN], sealed[SEALED_LEN], opened[RECORD_LEN];
+    uint64_t result;
+
+    printf("Record %" PRIu64 ": %s.\n\n", number, why);
+    make_record(record, number);
+    result = seal_record(key, LANE, number, record, sealed);
+    if (!must("a record is sealed", is(result, KINPHLOR_OK, SEALED_LEN))) return;
+    show("sealed", sealed, SEALED_LEN, "");
+
+    memset(opened, FILL, sizeof opened);
+    result = open_changing(ring, LANE, number, sealed, opened);
+    if (slot < KEYS) {
+        if (!must("a record opens under the ring", is(result, KINPHLOR_OK, RECORD_LEN))) return;
+        must("the slot is that of its key", kinphlor_slot(result) == slot);
+        must("it opens to what was sealed", memcmp(opened, record, RECORD_LEN) == 0);
+        show_opened(opened);
+        show_answer(result);
+        printf("  %-14s %u, %s\n", "slot", (unsigned)kinphlor_slot(result), names[slot]);
+    } else {
+        must("a record under neither key is refused with 8", is(result, KINPHLOR_FORGED, 0));
+        must("its output is zeros", memcmp(opened, ZEROS, RECORD_LEN) == 0);
+        show("output", opened, RECORD_LEN, "wiped");
+        show_answer(result);
+    }
+    show_colour(result);
 }
 
 /* The first record number whose tag ends in these two bytes, or 0. One number in 65,536 has such a tag. */
@@ -245,10 +298,13 @@ static uint64_t search(const uint8_t key[KEY_LEN], uint8_t last_but_one, uint8_t
 }
 
 int main(void) {
-    uint8_t key[KEY_LEN], sealed[SEALED_LEN];
+    uint8_t ring[KEYS * KEY_LEN], strange[KEY_LEN], sealed[SEALED_LEN];
+    uint8_t *const key = ring + OLD * KEY_LEN;
     uint64_t plain, carry;
 
-    load_key(key);
+    load_key(key, 0);
+    load_key(ring + NEW * KEY_LEN, 1);
+    load_key(strange, 2);
     printf("Records of gym %lu, wall %u, lane %u, sealed with AES-SIV (RFC 5297).\n\n", (unsigned long)LANE.gym,
            (unsigned)LANE.wall, (unsigned)LANE.number);
     plain = search(key, 0x3a, 0x10);
@@ -258,9 +314,16 @@ int main(void) {
         show_record(key, plain, "the first whose tag ends in 3a 10; three blocks up from there, no carry", sealed);
         show_record(key, carry, "the first whose tag ends in ff fe; the third block needs a carry", sealed);
         show_damaged(key, carry, sealed);
+
+        puts("The gym changes its key. While records under the old one still arrive, the tablet has a ring of");
+        puts("both: the new key in slot 0, the old key in slot 1.\n");
+        show_changing(ring, ring + NEW * KEY_LEN, NEW, carry + 2, "sealed after the change");
+        show_changing(ring, ring + OLD * KEY_LEN, OLD, carry + 1, "sealed before the change, and late");
+        show_changing(ring, strange, KEYS, carry + 3, "sealed under neither key");
     }
-    wipe(key, sizeof key);
+    wipe(ring, sizeof ring);
+    wipe(strange, sizeof strange);
     if (failures > 0) return 1;
-    puts("demo: three records opened as they were sealed; the damaged one was refused and wiped");
+    puts("demo: five records opened as they were sealed; one damaged and one strange were refused and wiped");
     return 0;
 }

@@ -16,6 +16,6 @@ fn main() {
             sealed.as_mut_ptr(), sealed.len(), scratch.as_mut_ptr(), scratch.len(),
         )
     };
-    assert_eq!((result >> 32, result & 0xffff_ffff), (0, 56), "the answer and the length");
+    assert_eq!((result >> 32, result & 0xfff_ffff), (0, 56), "the answer and the length");
     println!("sealed: {sealed:02x?}");
 }
