@@ -1,6 +1,6 @@
 -- `siv::work::first_slot` meets its contract.
 -- Assumes nothing.
-use mathlib.Core.Path.{_≡_, ap, sym, subst, _∙_}
+use mathlib.Core.Path.{ap, sym, subst, _∙_}
 use Prim.Native.Nat.{_-_}
 use native.Mathlib.Nat.{le-trans, le-of-eq}
 use native.Mathlib.Omega.{arith}
@@ -10,7 +10,7 @@ use Rattle.octets.specs.Octets.{put}
 use Rattle.octets.proofs.Strings.{part-rest}
 use Rattle.header.specs.Header.{strings}
 use Rattle.siv.specs.Ring.{slotKey}
-use Rattle.siv.specs.Siv.{opened, genuine}
+use Rattle.siv.specs.Siv.{genuine}
 use Rattle.siv.proofs.Laws.{length-opened, opened-by, genuine-by, put-beyond, put-rest}
 use Rattle.siv.proofs.Ring.{slot-within, Searching, searching-none, searching-more, searching-found, searching-all}
 use Rattle.siv.proofs.work.first_slot.Statement.{statement}
