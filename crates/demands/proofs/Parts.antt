@@ -1,15 +1,13 @@
 -- Number, slot and length can be read back from the number that C gets.
 -- Assumes nothing.
 use mathlib.Core.Path.{_≡_, refl}
-use mathlib.Core.Bool.{Bool, true, false, cond}
+use mathlib.Core.Bool.{Bool, true, false}
 use mathlib.Core.List.{List, _++_}
 use Prim.Native.Nat.{ℕ, _+_, _-_, _*_, _≤_, _<_}
 use native.Mathlib.Omega.{arith}
-use lib.Dec.{eqb}
 use lib.ListN.{length}
-use borrow.Author.Tests.{eqb-true}
 use Rattle.siv.specs.Answer.{Row, first}
-use Rattle.siv.specs.Calls.{CallResult, limit, sealNumber, sealCall, openNumber, openCall}
+use Rattle.siv.specs.Calls.{CallResult, limit}
 use Rattle.siv.specs.Ring.{slots, slotKey, ringRows, RingResult}
 use Rattle.siv.proofs.Laws.{first-none, open-count}
 use Rattle.siv.proofs.Ring.{ring-admits, given-within, Settled, goes, stops}

@@ -39,7 +39,7 @@ module _ (keyLength slots′ : ℕ) (ring bytes lens input output scratch : List
 module _ (keyLength slots′ : ℕ) (ring bytes lens input output scratch : List ℕ) where
   by-slot : 1 ≤ slots′ → (s : ℕ) → Given (opensAt keyLength ring bytes lens input output scratch) slots′ s
       → BySlot keyLength slots′ ring bytes lens input output scratch (withSlot keyLength ring bytes lens input output scratch s)
-  by-slot some s g = record { single = refl; within = given-within _ slots′ some g; smallest = smallest g; otherwise = otherwise g }
+  by-slot some s g = record { within = given-within _ slots′ some g; single = refl; smallest = smallest g; otherwise = otherwise g }
     where
       -- a slot that opens does not fail the test
       opens-not : {i : ℕ} → Opens keyLength slots′ ring bytes lens input output scratch i → opensAt keyLength ring bytes lens input output scratch i ≡ false → ⊥
@@ -100,32 +100,31 @@ module _ (keyLength slots′ : ℕ) (ring bytes lens y output scratch : List ℕ
       accepts-the-sealed (slotKey keyLength ring i) bytes lens y output scratch
       (record { keyed = slot-keyed keyLength slots′ ring i (r .keyed) (r .whole) h; few = few; listed = listed }) roomy scratchy
 
-  opens-sealed : (i : ℕ) (P : List ℕ) → SealsUnder keyLength slots′ ring bytes lens y output scratch i P → Opens keyLength slots′ ring bytes lens y output scratch i
+  opens-sealed : (i : ℕ) (P : List ℕ) → SealsUnder keyLength slots′ ring bytes lens y i P → Opens keyLength slots′ ring bytes lens y output scratch i
   opens-sealed i P (h, p) = (h, ap (λ (o : Outcome). o .number) (by-key i h .accepted P p .0))
 
   module _ (s : ℕ) (g : Given (opensAt keyLength ring bytes lens y output scratch) slots′ s) where
     within : s < slots′
     within = given-within _ slots′ (r .some) g
 
-    smallest : (i : ℕ) (P : List ℕ) → SealsUnder keyLength slots′ ring bytes lens y output scratch i P
+    smallest : (i : ℕ) (P : List ℕ) → SealsUnder keyLength slots′ ring bytes lens y i P
         → Opens keyLength slots′ ring bytes lens y output scratch s × (s ≤ i)
     smallest i P p = by-slot keyLength slots′ ring bytes lens y output scratch (r .some) s g .smallest i (opens-sealed i P p)
 
     -- something seals to y under the slot given, so no slot before it is the first under which something does
-    is-first : (i : ℕ) (P : List ℕ) → SealsUnder keyLength slots′ ring bytes lens y output scratch i P
-        → ((j : ℕ) (Q : List ℕ) → SealsUnder keyLength slots′ ring bytes lens y output scratch j Q → i ≤ j) → s ≡ i
+    is-first : (i : ℕ) (P : List ℕ) → SealsUnder keyLength slots′ ring bytes lens y i P
+        → ((j : ℕ) (Q : List ℕ) → SealsUnder keyLength slots′ ring bytes lens y j Q → i ≤ j) → s ≡ i
     is-first i P p least = go (decLe i s) (smallest i P p .1)
       where
         go : Dec (i ≤ s) → s ≤ i → s ≡ i
         go (yes l) h = omega arith
         go (no l) h = absurd (by-key s within .refuses (λ Q q. l (least s Q (within, q))) (smallest i P p .0 .1))
 
-    third-ring : ThirdRing keyLength slots′ ring bytes lens y output scratch (withSlot keyLength ring bytes lens y output scratch s)
+    third-ring : ThirdRing keyLength slots′ ring bytes lens y output (withSlot keyLength ring bytes lens y output scratch s)
     third-ring =
         record {
           accepts = λ P p. (within, by-key s within .accepts P p);
-          earliest = λ i P p. smallest i P p .1;
-          accepted = λ i P p. smallest i P p .0 .1;
+          accepted = λ i P p. (smallest i P p .0 .1, smallest i P p .1);
           acceptedWith = λ i P p least.
               let at : s ≡ i = is-first i P p least in
               (subst (λ (j : ℕ). Gives (openSlot keyLength ring bytes lens y output scratch j) output P) (sym at) (by-key i (p .0) .accepted P (p .1)), at);
@@ -142,6 +141,6 @@ opens-by-the-smallest-slot =
       oneKey = one-key;
       fromC = from-c;
       third = λ keyLength slots′ ring bytes lens y output scratch r few listed roomy scratchy.
-          by-given keyLength slots′ ring bytes lens y output scratch r (ThirdRing keyLength slots′ ring bytes lens y output scratch)
+          by-given keyLength slots′ ring bytes lens y output scratch r (ThirdRing keyLength slots′ ring bytes lens y output)
           (third-ring keyLength slots′ ring bytes lens y output scratch r few listed roomy scratchy);
     }

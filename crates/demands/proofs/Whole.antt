@@ -2,7 +2,7 @@
 -- Assumes nothing.
 use mathlib.Core.Path.{_≡_, refl, ap, sym, subst, _∙_}
 use mathlib.Core.Bool.{Bool, true, false, not, cond}
-use mathlib.Core.List.{List, [], _∷_, _++_}
+use mathlib.Core.List.{List}
 use Prim.Native.Nat.{ℕ, _+_, _-_, _≤_}
 use native.Mathlib.Omega.{arith}
 use lib.ListN.{length, take, replicate}
@@ -10,8 +10,8 @@ use borrow.Author.Tests.{le-ltb, eq-eqb}
 use Rattle.octets.specs.Octets.{put}
 use Rattle.octets.proofs.Strings.{take-put}
 use Rattle.header.specs.Header.{total, strings}
-use Rattle.siv.specs.Answer.{Outcome, success, withoutLength, Row, row}
-use Rattle.siv.specs.Calls.{limit, scratchNeed, headerRows, openRows, sealNumber, sealCall, openNumber, openCall}
+use Rattle.siv.specs.Answer.{Outcome, success, withoutLength}
+use Rattle.siv.specs.Calls.{limit, scratchNeed, sealNumber, sealCall, openNumber, openCall}
 use Rattle.siv.specs.Siv.{sealed, opened, genuine}
 use Rattle.siv.proofs.Laws.{openJudged, open-admits, by-tag, open-passed, length-opened}
 use Rattle.demands.specs.Whole.{Admits, Gives, Second, SealsTo, ThirdWhole}

@@ -20,50 +20,51 @@ pub record IsRing (keyLength slots : ℕ) (ring : List ℕ) : Type 0 where
   pub some : 1 ≤ slots
   pub most : slots ≤ 4
 
+-- Such a ring, whatever the other arguments are.
 module _ (keyLength slots : ℕ) (ring bytes lens input output scratch : List ℕ) where
   -- slot i's key opens: the single call answers 0
   abbrev pub Opens : ℕ → Type 0
   Opens i = (i < slots) × (openSlot keyLength ring bytes lens input output scratch i .outcome .number ≡ 0)
 
-  -- any other input at all
   pub record BySlot (result : RingResult) : Type 0 where
     -- number, length, output and scratch are those of the single call with the given slot's key
-    pub single : result .call ≡ openSlot keyLength ring bytes lens input output scratch (result .slot)
-    -- the slot given is one of the ring's; if some slot's key opens, it is the smallest such
     pub within : result .slot < slots
+    pub single : result .call ≡ openSlot keyLength ring bytes lens input output scratch (result .slot)
+    -- if some slot's key opens, the slot given is the smallest such
     pub smallest : (i : ℕ) → Opens i → Opens (result .slot) × (result .slot ≤ i)
     -- if none does, it is slot 0
     pub otherwise : ((i : ℕ) → Opens i → ⊥) → result .slot ≡ 0
 
 -- The third demand for a ring: any admitted header list, any byte string y, buffers large enough.
-module _ (keyLength slots : ℕ) (ring bytes lens y output scratch : List ℕ) where
-  -- P seals to y under slot i's key
+module _ (keyLength slots : ℕ) (ring bytes lens y : List ℕ) where
+  -- P, within the limit, seals to y under slot i's key
   abbrev pub SealsUnder : ℕ → List ℕ → Type 0
   SealsUnder i P = (i < slots) × SealsTo (slotKey keyLength ring i) bytes lens y P
 
-  pub record ThirdRing (result : RingResult) : Type 0 where
-    -- where opening accepts y with P, P seals to y under the given slot's key, and nothing does under an earlier one
+  pub record ThirdRing (output : List ℕ) (result : RingResult) : Type 0 where
+    -- where opening accepts y with P, P seals to y under the given slot's key
     pub accepts : (P : List ℕ) → Gives (result .call) output P → SealsUnder (result .slot) P
-    pub earliest : (i : ℕ) (P : List ℕ) → SealsUnder i P → result .slot ≤ i
-    -- where P seals to y under some key of the ring, opening accepts y; and with P, if nothing seals to y under an earlier key
-    pub accepted : (i : ℕ) (P : List ℕ) → SealsUnder i P → result .call .outcome .number ≡ 0
+    -- where P seals to y under some key of the ring, opening accepts y, with that slot or an earlier one
+    pub accepted : (i : ℕ) (P : List ℕ) → SealsUnder i P → (result .call .outcome .number ≡ 0) × (result .slot ≤ i)
+    -- and with P, if nothing seals to y under an earlier key
     pub acceptedWith : (i : ℕ) (P : List ℕ) → SealsUnder i P → ((j : ℕ) (Q : List ℕ) → SealsUnder j Q → i ≤ j)
         → Gives (result .call) output P × (result .slot ≡ i)
-    -- where nothing does under any key, opening refuses
+    -- where nothing seals to y under any key, opening refuses
     pub refuses : ((i : ℕ) (P : List ℕ) → SealsUnder i P → ⊥) → result .call .outcome .number ≡ 0 → ⊥
-    -- and if y has 16 to 1,048,592 bytes: 8, and every output byte that a plaintext would have taken is zero
+    -- and if y has 16 to 1,048,592 bytes, it refuses with 8, and every output byte that a plaintext would have taken is zero
     pub wipes : ((i : ℕ) (P : List ℕ) → SealsUnder i P → ⊥) → 16 ≤ length y → length y ≤ limit + 16
         → (result .call .outcome ≡ withoutLength 8) × (result .call .output ≡ put output 0 (replicate (length y - 16) 0))
 
+-- What a user of the ring may rely on.
 pub record Ring : Type 0 where
   pub bySlot : (keyLength slots : ℕ) (ring bytes lens input output scratch : List ℕ) → IsRing keyLength slots ring
       → BySlot keyLength slots ring bytes lens input output scratch (openRing keyLength ring bytes lens input output scratch)
   -- with one key, whatever its length, the ring's call is the single call
   pub oneKey : (key bytes lens input output scratch : List ℕ)
       → openRing (length key) key bytes lens input output scratch ≡ record { slot = 0; call = openCall key bytes lens input output scratch }
+  pub third : (keyLength slots : ℕ) (ring bytes lens y output scratch : List ℕ) → IsRing keyLength slots ring → length lens ≤ 126 → total lens ≡ length bytes
+      → length y - 16 ≤ length output → scratchNeed (length y - 16) ≤ length scratch
+      → ThirdRing keyLength slots ring bytes lens y output (openRing keyLength ring bytes lens y output scratch)
   -- from C, with a nonce, it is the same call
   pub fromC : (keyLength : ℕ) (ring header input output scratch : List ℕ) (ad nonce : ℕ) → (nonce ≡ 0 → ⊥)
       → openRingFromC keyLength ring header ad nonce input output scratch ≡ openRing keyLength ring header (aeadLens ad nonce) input output scratch
-  pub third : (keyLength slots : ℕ) (ring bytes lens y output scratch : List ℕ) → IsRing keyLength slots ring → length lens ≤ 126 → total lens ≡ length bytes
-      → length y - 16 ≤ length output → scratchNeed (length y - 16) ≤ length scratch
-      → ThirdRing keyLength slots ring bytes lens y output scratch (openRing keyLength ring bytes lens y output scratch)

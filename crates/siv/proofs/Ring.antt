@@ -2,22 +2,23 @@
 -- Assumes nothing.
 use mathlib.Core.Path.{_≡_, refl, ap, sym, subst, _∙_}
 use mathlib.Core.Bool.{Bool, true, false, false≢true, cond, _||_, or-true}
-use mathlib.Core.List.{List, _++_}
+use mathlib.Core.List.{List, [], _++_}
 use Prim.Native.Nat.{ℕ, zero, suc, _+_, _-_, _*_, _≤_, _<_}
 use native.Mathlib.Decide.{ℕ-discrete, decLt}
 use native.Mathlib.Nat.{sub-zero, div-eq-of-eq-mul-left, mul-le-mul-right}
 use native.Mathlib.Omega.{arith}
 use lib.Dec.{eqb, ltb}
-use lib.ListN.{length, drop, length-take, length-drop}
+use lib.ListN.{length, take, drop, replicate, length-take, length-drop}
 use borrow.Author.Tests.{eqb-true, eqb-false, eq-eqb, ne-eqb, ltb-true, ltb-false}
+use Rattle.octets.specs.Octets.{put}
 use Rattle.header.specs.Header.{strings}
 use Rattle.siv.specs.declared.Answer.{Answer}
 use Rattle.siv.specs.declared.RingAnswer.{RingAnswer}
-use Rattle.siv.specs.Answer.{Outcome, Row, first, outcomeOf, withoutLength}
-use Rattle.siv.specs.Calls.{isKeyLength, limit, headerRows, openRows, DidCall}
+use Rattle.siv.specs.Answer.{Outcome, Row, first, outcomeOf, success, withoutLength}
+use Rattle.siv.specs.Calls.{isKeyLength, limit, scratchNeed, headerRows, openRows, DidCall}
 use Rattle.siv.specs.Ring.{isRing, slots, slotKey, firstSlot, ringRows, RingResult, refusedRing, DidRing, openSlot, openRing}
-use Rattle.siv.specs.Siv.{genuine}
-use Rattle.siv.proofs.Laws.{first-none, first-pass, first-stop, openJudged, open-due, open-count, open-number, open-refused}
+use Rattle.siv.specs.Siv.{opened, genuine}
+use Rattle.siv.proofs.Laws.{first-none, first-pass, first-stop, openJudged, open-admits, open-due, open-count, open-number, open-refused, open-delivered, length-opened, text-read, scratch-wiped}
 
 -- ---- lengths
 
@@ -283,7 +284,7 @@ module _ (keyLength : ℕ) (ring bytes lens input output scratch : List ℕ) whe
           record { slot = sym (given-closed _ _ g closed); call = open-refused (slotKey keyLength ring s) bytes lens input output scratch answer k (e ∙ ap withoutLength (pass ∙ sym judged)) }
 
   -- past the judgement a slot's key opens where the string is genuine under it
-  pub ring-tried : ringJudged ≡ 0 → (given : RingAnswer) (last last′ : List ℕ)
+  ring-tried : ringJudged ≡ 0 → (given : RingAnswer) (last last′ : List ℕ)
       → Given (λ i. genuine (slotKey keyLength ring i) (strings bytes lens) input) (slots keyLength (length ring)) (given .slot)
       → DidCall (openSlot keyLength ring bytes lens input output scratch (given .slot)) (given .answer) last last′
       → DidRing (openRing keyLength ring bytes lens input output scratch) given last last′
@@ -296,6 +297,37 @@ module _ (keyLength : ℕ) (ring bytes lens input output scratch : List ℕ) whe
           (λ i h. open-number (slotKey keyLength ring i) bytes lens input output scratch (slot-passed e i h)) g′ in
           let at : given .slot ≡ s = given-one _ _ g opens in
           record { slot = at; call = subst (λ (i : ℕ). DidCall (openSlot keyLength ring bytes lens input output scratch i) (given .answer) last last′) at d }
+
+  -- what the search and the delivery after it come to: r is the search's result, and used what it left in the scratch
+  module _ (judged : ringJudged ≡ 0) (r : ℕ) (answer : Answer) (used output′ scratch′ : List ℕ)
+      (search : r ≡ firstSlot (λ i. genuine (slotKey keyLength ring i) (strings bytes lens) input) 0 (slots keyLength (length ring)))
+      (rest : drop (length input - 16) used ≡ drop (length input - 16) scratch) (wiped : scratch′ ≡ put used 0 (replicate (scratchNeed (length input - 16)) 0)) where
+    test : ℕ → Bool
+    test i = genuine (slotKey keyLength ring i) (strings bytes lens) input
+
+    pub ring-found : r < slots keyLength (length ring) → used ≡ put scratch 0 (opened (slotKey keyLength ring r) input) → outcomeOf answer ≡ success (length input - 16)
+        → output′ ≡ put output 0 (take (length input - 16) used)
+        → DidRing (openRing keyLength ring bytes lens input output scratch) (record { answer = answer; slot = r }) output′ scratch′
+    unfolding test
+    ring-found h text o p =
+        let key = slotKey keyLength ring r in
+        let passed = slot-passed judged r h in
+        let long : length (opened key input) ≡ length input - 16 = length-opened key input in
+        let opens : test r ≡ true = ap test search ∙ firstSlot-found test 0 (slots keyLength (length ring)) (omega (arith, search, h)) in
+        ring-tried judged _ output′ scratch′ (given-found test (slots keyLength (length ring)) search h)
+        (open-delivered key bytes lens input output scratch true opens passed answer (take (length input - 16) used) output′ scratch′ o
+        (λ _. text-read (opened key input) scratch text (sym long) (omega (arith, long, open-admits key bytes lens input output scratch passed .scratchy))) p
+        (scratch-wiped scratch used (length input - 16) rest wiped))
+
+    pub ring-none : slots keyLength (length ring) ≤ r → outcomeOf answer ≡ withoutLength 8 → output′ ≡ put output 0 (replicate (length input - 16) 0)
+        → DidRing (openRing keyLength ring bytes lens input output scratch) (record { answer = answer; slot = 0 }) output′ scratch′
+    unfolding test
+    ring-none h o p =
+        let some = ring-admits keyLength (length ring) (ring-judged judged .0) .1 .some in
+        let closed : test 0 ≡ false = firstSlot-passed test 0 (slots keyLength (length ring)) 0 (omega arith) (omega (arith, search, h, some)) in
+        ring-tried judged _ output′ scratch′ (given-none test (slots keyLength (length ring)) (omega (arith, search, h)))
+        (open-delivered (slotKey keyLength ring 0) bytes lens input output scratch false closed (slot-passed judged 0 some) answer [] output′ scratch′ o (λ e. absurd (false≢true e)) p
+        (scratch-wiped scratch used (length input - 16) rest wiped))
 
   -- slot and length are small, so that both fit in one number with the answer's
   pub ring-small : (given : RingAnswer) (last last′ : List ℕ) → DidRing (openRing keyLength ring bytes lens input output scratch) given last last′

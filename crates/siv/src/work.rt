@@ -110,6 +110,34 @@ pub(crate) fn open_admitted(
     opens(&engine, key, header, lens, v, &sealed[TAG_LEN..], scratch)
 }
 
+// Opens under the key of one slot of a ring.
+fn opens_slot(
+    engine: &Engine,
+    key_len: usize,
+    ring: &[u8],
+    slot: usize,
+    header: &[u8],
+    lens: &[u32],
+    v: Block,
+    ciphertext: &[u8],
+    scratch: &mut [u8],
+) -> bool
+    requires { ⌜ Ready (now engine) × (isKeyLength «key_len» ≡ true) × (slot * «key_len» + «key_len» ≤ length (now ring)) × (total (now lens) ≤ length (now header)) × (length (now ciphertext) ≤ length (now scratch)) ⌝ }
+    ensures judged { λ r. ⌜ r ≡ same (tagOf (slotKey «key_len» (now (ring .entry)) slot) (strings (now (header .entry)) (now (lens .entry))) (streamed (slotKey «key_len» (now (ring .entry)) slot) v (now (ciphertext .entry)))) v ⌝ }
+    ensures text { λ _. ⌜ now (scratch .exit) ≡ put (now (scratch .entry)) 0 (streamed (slotKey «key_len» (now (ring .entry)) slot) v (now (ciphertext .entry))) ⌝ }
+{
+    let at = slot * key_len;
+    opens(
+        engine,
+        &ring[at..at + key_len],
+        header,
+        lens,
+        v,
+        ciphertext,
+        scratch,
+    )
+}
+
 // The first slot of a ring whose key opens, with its plaintext at the front of scratch; the number of slots if none does.
 pub(crate) fn first_slot(
     key_len: usize,
@@ -134,10 +162,11 @@ pub(crate) fn first_slot(
             break slots;
         }
         let slot = slots - left;
-        let at = slot * key_len;
-        if opens(
+        if opens_slot(
             &engine,
-            &ring[at..at + key_len],
+            key_len,
+            ring,
+            slot,
             header,
             lens,
             v,

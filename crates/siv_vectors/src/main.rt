@@ -1,4 +1,4 @@
-// RFC 5297's appendix A sealed and opened, and each sealed string with one bit of each byte changed in turn.
+// RFC 5297's appendix A sealed and opened, by its key and through a ring of both keys, and each sealed string with one bit of each byte changed in turn.
 ghost use Prim.Native.Nat.{_+_, _≤_, _<_};
 ghost use lib.ListN.{length};
 use rfc5297::A1_AD;
@@ -66,32 +66,56 @@ fn count_refused(key: &[u8], header: &[u8], lens: &[u32], sealed: &[u8]) -> usiz
     i
 }
 
+// Prints what opening gives under a key.
+fn by_key(key: &[u8], header: &[u8], lens: &[u32], sealed: &[u8])
+    requires { ⌜ (16 ≤ length (now sealed)) × (length (now sealed) ≤ 64) ⌝ }
+{
+    let mut output = [0u8; 64];
+    let mut scratch = [0u8; 64];
+    siv::open(key, header, lens, sealed, &mut output, &mut scratch);
+    printer::line(b"    opened", &output[0..sealed.len() - 16]);
+}
+
+// Prints what opening gives under a ring of keys of 32 bytes, and the slot.
+fn by_ring(ring: &[u8], header: &[u8], lens: &[u32], sealed: &[u8])
+    requires { ⌜ (16 ≤ length (now sealed)) × (length (now sealed) ≤ 64) ⌝ }
+{
+    let mut output = [0u8; 64];
+    let mut scratch = [0u8; 64];
+    let opened = siv::open_ring(32, ring, header, lens, sealed, &mut output, &mut scratch);
+    printer::line(b"    opened by the ring", &output[0..sealed.len() - 16]);
+    printer::text(b"    by the key in slot ");
+    printer::number(opened.slot);
+}
+
 // Prints what sealing and opening give, and how many changed bytes are refused.
-fn example(label: &[u8], key: &[u8], header: &[u8], lens: &[u32], p: &[u8])
+fn example(label: &[u8], key: &[u8], ring: &[u8], header: &[u8], lens: &[u32], p: &[u8])
     requires { ⌜ length (now p) ≤ 48 ⌝ }
 {
-    let n = p.len();
+    let n = p.len() + 16;
     let mut sealed = [0u8; 64];
-    let mut output = [0u8; 64];
     let mut scratch = [0u8; 64];
     printer::text(label);
     siv::seal(key, header, lens, p, &mut sealed, &mut scratch);
-    printer::line(b"    sealed", &sealed[0..n + 16]);
-    siv::open(
-        key,
-        header,
-        lens,
-        &sealed[0..n + 16],
-        &mut output,
-        &mut scratch,
-    );
-    printer::line(b"    opened", &output[0..n]);
-    let count = count_refused(key, header, lens, &sealed[0..n + 16]);
+    printer::line(b"    sealed", &sealed[0..n]);
+    by_key(key, header, lens, &sealed[0..n]);
+    by_ring(ring, header, lens, &sealed[0..n]);
+    let count = count_refused(key, header, lens, &sealed[0..n]);
     printer::text(b"    bytes that were changed and refused, their place wiped: ");
     printer::number(count);
 }
 
 fn main() {
-    example(b"A.1\n", &A1_KEY, &A1_AD, &A1_LENS, &A1_PLAINTEXT);
-    example(b"A.2\n", &A2_KEY, &A2_HEADER, &A2_LENS, &A2_PLAINTEXT);
+    let mut ring = [0u8; 64];
+    octets::copy_at(&mut ring, 0, &A1_KEY);
+    octets::copy_at(&mut ring, 32, &A2_KEY);
+    example(b"A.1\n", &A1_KEY, &ring, &A1_AD, &A1_LENS, &A1_PLAINTEXT);
+    example(
+        b"A.2\n",
+        &A2_KEY,
+        &ring,
+        &A2_HEADER,
+        &A2_LENS,
+        &A2_PLAINTEXT,
+    );
 }

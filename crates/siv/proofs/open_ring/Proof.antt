@@ -1,18 +1,15 @@
 -- `siv::open_ring` meets its contract.
 -- Assumes nothing.
-use mathlib.Core.Path.{_≡_, ap, sym, _∙_}
-use mathlib.Core.Bool.{Bool, true, false, false≢true}
-use mathlib.Core.List.{[]}
-use Prim.Native.Nat.{ℕ, _-_, _≤_, _<_}
+use mathlib.Core.Path.{_≡_}
+use mathlib.Core.Bool.{true}
+use Prim.Native.Nat.{_-_}
 use native.Mathlib.Omega.{arith}
 use lib.ListN.{length}
 use borrow.Author.Needs.{needs}
-use Rattle.header.specs.Header.{strings}
 use Rattle.siv.specs.Calls.{isKeyLength}
-use Rattle.siv.specs.Ring.{slots, slotKey}
-use Rattle.siv.specs.Siv.{opened, genuine}
-use Rattle.siv.proofs.Laws.{told-refused, passed, openJudged, OpenAdmits, open-admits, open-delivered, length-opened, text-read, scratch-wiped}
-use Rattle.siv.proofs.Ring.{key-length-some, RingWhole, ring-admits, firstSlot-found, firstSlot-passed, given-found, given-none, ringJudged, ring-judged, slot-passed, ring-refused, ring-tried}
+use Rattle.siv.specs.Ring.{slotKey}
+use Rattle.siv.proofs.Laws.{told-refused, passed, OpenAdmits, open-admits}
+use Rattle.siv.proofs.Ring.{key-length-some, RingWhole, ring-admits, ringJudged, ring-judged, slot-passed, ring-refused, ring-found, ring-none}
 use Rattle.siv.proofs.open_ring.Statement.{statement}
 use Rattle.siv.proofs.open_ring.Tie as tie
 
@@ -31,19 +28,14 @@ whole c =
     ring-admits (a .key-len) (length (a .ring .now))
     (ring-judged (a .key-len) (a .ring .now) (a .header .now) (a .lens .now) (a .input .now) (a .output .now) (a .scratch .now) (judged c) .0)
 
--- with any slot's key the single call's judgement is passed too
-slot-judged : (c : tie.At-match-keys2)
-    → let a = c .before .before .before .before .before .before .before .before .args in
-    (i : ℕ) → i < slots (a .key-len) (length (a .ring .now))
-    → openJudged (slotKey (a .key-len) (a .ring .now) i) (a .header .now) (a .lens .now) (a .input .now) (a .output .now) (a .scratch .now) ≡ 0
-slot-judged c =
-    let a = c .before .before .before .before .before .before .before .before .args in
-    slot-passed (a .key-len) (a .ring .now) (a .header .now) (a .lens .now) (a .input .now) (a .output .now) (a .scratch .now) (judged c)
-
+-- and of the single call, with slot 0's key
 admits : (c : tie.At-match-keys2)
     → let a = c .before .before .before .before .before .before .before .before .args in
     OpenAdmits (slotKey (a .key-len) (a .ring .now) 0) (a .header .now) (a .lens .now) (a .input .now) (a .output .now) (a .scratch .now)
-admits c = open-admits _ _ _ _ _ _ (slot-judged c 0 (whole c .1 .some))
+admits c =
+    let a = c .before .before .before .before .before .before .before .before .args in
+    open-admits _ _ _ _ _ _
+    (slot-passed (a .key-len) (a .ring .now) (a .header .now) (a .lens .now) (a .input .now) (a .output .now) (a .scratch .now) (judged c) 0 (whole c .1 .some))
 
 judge-open-ring-requires : tie.Need-judge-open-ring-requires
 judge-open-ring-requires c κs = search needs
@@ -85,21 +77,9 @@ returns-2 c =
     let done = c .before .before .before .before in
     let tested = done .before .before .before in
     let searched = tested .before .before .before in
-    let matched = searched .before .before .before in
-    let args = matched .before .before .before .before .before .before .before .before .args in
-    let y = args .input .now in
-    let test : ℕ → Bool = λ i. genuine (slotKey (args .key-len) (args .ring .now) i) (strings (args .header .now) (args .lens .now)) y in
-    let count = slots (args .key-len) (length (args .ring .now)) in
-    let slot = searched .first-slot .result in
     let search = searched .first-slot .ensures in
-    let key = slotKey (args .key-len) (args .ring .now) slot in
-    let below : slot < count = tested .if1 .taken in
-    let opens : test slot ≡ true = ap test (search .0) ∙ firstSlot-found test 0 count (omega (arith, search .0, below)) in
-    let long : length (opened key y) ≡ length y - 16 = length-opened key y in
-    ring-tried _ _ _ _ _ _ _ (judged matched) _ _ _ (given-found test count (search .0) below)
-    (open-delivered key _ _ _ _ _ true opens (slot-judged matched slot below) (done .deliver .result) _ _ _ (done .deliver .ensures .0)
-    (λ _. text-read (opened key y) (args .scratch .now) (search .1 .0 below) (sym long) (omega (arith, long, admits matched .scratchy))) (done .deliver .ensures .1 .0)
-    (scratch-wiped (args .scratch .now) _ (length y - 16) (search .1 .1) (done .deliver .ensures .1 .1)))
+    ring-found _ _ _ _ _ _ _ (judged (searched .before .before .before)) _ _ _ _ _ (search .0) (search .1 .1) (done .deliver .ensures .1 .1) (tested .if1 .taken)
+    (search .1 .0 (tested .if1 .taken)) (done .deliver .ensures .0) (done .deliver .ensures .1 .0)
 
 sub-deliver-2 : tie.Need-sub-deliver-2
 sub-deliver-2 c = omega (arith, admits (c .before .before .before .before .before .before) .tagged)
@@ -120,20 +100,9 @@ returns-3 c =
     let done = c .before .before .before .before in
     let tested = done .before .before .before in
     let searched = tested .before .before .before in
-    let matched = searched .before .before .before in
-    let args = matched .before .before .before .before .before .before .before .before .args in
-    let y = args .input .now in
-    let test : ℕ → Bool = λ i. genuine (slotKey (args .key-len) (args .ring .now) i) (strings (args .header .now) (args .lens .now)) y in
-    let count = slots (args .key-len) (length (args .ring .now)) in
-    let slot = searched .first-slot .result in
     let search = searched .first-slot .ensures in
-    let key = slotKey (args .key-len) (args .ring .now) 0 in
-    let past : count ≤ slot = tested .if1 .left in
-    let closed : test 0 ≡ false = firstSlot-passed test 0 count 0 (omega arith) (omega (arith, search .0, past, whole matched .1 .some)) in
-    ring-tried _ _ _ _ _ _ _ (judged matched) _ _ _ (given-none test count (omega (arith, search .0, past)))
-    (open-delivered key _ _ _ _ _ false closed (slot-judged matched 0 (whole matched .1 .some)) (done .deliver2 .result) [] _ _ (done .deliver2 .ensures .0)
-    (λ e. absurd (false≢true e)) (done .deliver2 .ensures .1 .0)
-    (scratch-wiped (args .scratch .now) _ (length y - 16) (search .1 .1) (done .deliver2 .ensures .1 .1)))
+    ring-none _ _ _ _ _ _ _ (judged (searched .before .before .before)) _ _ _ _ _ (search .0) (search .1 .1) (done .deliver2 .ensures .1 .1) (tested .if1 .left)
+    (done .deliver2 .ensures .0) (done .deliver2 .ensures .1 .0)
 
 pub open-ring-spec : {M : Type 1} → statement M
 open-ring-spec =
