@@ -6,28 +6,28 @@ use mathlib.Core.List.{List, [], _∷_, _++_}
 use Prim.Native.Nat.{ℕ, pred, _<_}
 use native.Mathlib.Decide.{ℕ-discrete}
 use native.Mathlib.Omega.{arith}
-use lib.Dec.{eqb}
-use lib.ListN.{length, drop, getD, replicate}
+use lib.Dec.{ltb, eqb}
+use lib.ListN.{length, getD, replicate}
 use borrow.Author.Tests.{eqb-true, eq-eqb, ne-eqb}
 use Rattle.octets.specs.Octets.{put}
-use Rattle.header.specs.Header.{strings}
+use Rattle.header.specs.Header.{total, strings}
 use Rattle.siv.specs.declared.Answer.{Answer}
 use Rattle.siv.specs.declared.Answer.the-variants.{Ok, Refused}
 use Rattle.siv.specs.declared.Refusal.{Refusal}
 use Rattle.siv.specs.declared.Refusal.the-variants.{KeyLength, HeaderCount, HeaderLengths, TooLong, SealedLength, OutputShort, ScratchShort, Forged, State, EmptyNonce, RingLength}
 use Rattle.siv.specs.Answer.{Outcome, Row, row, first, withoutLength, numberOf, outcomeOf}
-use Rattle.siv.specs.Calls.{CallResult, isKeyLength, headerRows, openRows, sealTable, sealNumber, sealCall, openTable, openNumber, openCall}
-use Rattle.siv.specs.Ring.{slots, slotKey, ringRows, RingResult, openSlot}
+use Rattle.siv.specs.Calls.{CallResult, isKeyLength, openRows, sealTable, sealNumber, sealCall, openTable, openNumber, openCall}
+use Rattle.siv.specs.Ring.{slotCount, slotKey, ringRows, RingResult, openSlot}
 use Rattle.siv.specs.Siv.{genuine}
-use Rattle.siv.proofs.Laws.{lacks, first-not, first-pass, first-stop, first-none, refusal-number, seal-count, open-count}
-use Rattle.siv.proofs.Ring.{RingWhole, ring-admits, slot-keyed, Given, given-within, given-closed, given-same, opensAt, Settled, goes, stops, ring-settles}
+use Rattle.siv.proofs.Laws.{lacks, first-not, first-pass, first-stop, first-none, refusal-number, none-where, seal-count, open-count}
+use Rattle.siv.proofs.Ring.{RingWhole, ring-admits, slot-keyed, Chosen, chosen-within, chosen-closed, chosen-same, opensAt, Comes, goes, stops, ring-comes}
 use Rattle.stream.specs.declared.Stream.{Stream}
 use Rattle.stream.specs.State.{ended}
 use Rattle.stream.specs.Steps.{StepResult, doneStep, refusedStep, settle, beginSealer, beginOpener, addStep, turnStep, writeStep, closeStep, feedStep, finishTable, finishStep}
 use Rattle.kinphlor.specs.Interface.{aeadLens, emptyNonce, fromC}
 use Rattle.demands.specs.First.{order, keeps, FirstDue, none, here, later, FirstSeal, FirstOpen, rowsFromC, FirstFromC, noSlot, FirstRing, FirstStep, FirstFinish, First}
 use Rattle.demands.proofs.Parts.{from-c-parts, ring-parts}
-use Rattle.demands.proofs.Slots.{given-noSlot, ring-settles-from-c}
+use Rattle.demands.proofs.Slots.{chosen-noSlot, ring-comes-from-c}
 
 -- `first` takes the first row that is due
 first-due : (rs : List Row) → FirstDue rs (first rs)
@@ -119,14 +119,15 @@ module _ (rest : List Row) (nonce : ℕ) (key output scratch : List ℕ) (call :
 
 module _ (keyLength : ℕ) (ring bytes lens input output scratch : List ℕ) where
   abbrev count : ℕ
-  count = slots keyLength (length ring)
+  count = slotCount keyLength (length ring)
 
   abbrev genuineAt : ℕ → Bool
   genuineAt i = genuine (slotKey keyLength ring i) (strings bytes lens) input
 
   -- the rows behind the ring's: those of the lengths, then 8
   abbrev lengthRows : List Row
-  lengthRows = drop 1 (headerRows keyLength lens (length bytes)) ++ openRows (length input) (length output) (length scratch)
+  lengthRows =
+      (row 2 (ltb 126 (length lens)) ∷ row 3 (not (eqb (total lens) (length bytes))) ∷ []) ++ openRows (length input) (length output) (length scratch)
 
   abbrev forgedRow : Bool → List Row
   forgedRow forged = row 8 forged ∷ []
@@ -138,9 +139,9 @@ module _ (keyLength : ℕ) (ring bytes lens input output scratch : List ℕ) whe
   slot-number i k = simp k
 
   -- so whole opening with the slot given has the table's number
-  given-number : {s : ℕ} → first (ringRows keyLength (length ring)) ≡ 0 → Given (opensAt keyLength ring bytes lens input output scratch) count s
+  chosen-number : {s : ℕ} → first (ringRows keyLength (length ring)) ≡ 0 → Chosen (opensAt keyLength ring bytes lens input output scratch) count s
       → openSlot keyLength ring bytes lens input output scratch s .outcome .number ≡ first (lengthRows ++ forgedRow (noSlot genuineAt count))
-  given-number {s} e g = number s (given-within _ count (a .1 .some) g) ∙ go (ℕ-discrete (first lengthRows) 0)
+  chosen-number {s} e g = number s (chosen-within _ count (a .1 .some) g) ∙ go (ℕ-discrete (first lengthRows) 0)
     where
       a : (isKeyLength keyLength ≡ true) × RingWhole keyLength (length ring)
       a = ring-admits keyLength (length ring) e
@@ -148,15 +149,11 @@ module _ (keyLength : ℕ) (ring bytes lens input output scratch : List ℕ) whe
       number : (i : ℕ) → i < count → openSlot keyLength ring bytes lens input output scratch i .outcome .number ≡ first (lengthRows ++ forgedRow (not (genuineAt i)))
       number i h = slot-number i (slot-keyed keyLength count ring i (a .0) (sym (a .1 .whole)) h)
 
-      zero-where : (b : Bool) → eqb (cond (not b) 8 0) 0 ≡ b
-      zero-where true = refl
-      zero-where false = refl
-
       go : Dec (first lengthRows ≡ 0) → first (lengthRows ++ forgedRow (not (genuineAt s))) ≡ first (lengthRows ++ forgedRow (noSlot genuineAt count))
       go (yes z) =
           let agree : (i : ℕ) → i < count → opensAt keyLength ring bytes lens input output scratch i ≡ genuineAt i = λ i h.
-          ap (λ (m : ℕ). eqb m 0) (number i h ∙ first-pass lengthRows (forgedRow (not (genuineAt i))) refl z) ∙ zero-where (genuineAt i) in
-          ap (λ (b : Bool). first (lengthRows ++ forgedRow b)) (given-noSlot genuineAt count (a .1 .some) (given-same _ count genuineAt agree g))
+          ap (λ (m : ℕ). eqb m 0) (number i h ∙ first-pass lengthRows (forgedRow (not (genuineAt i))) refl z) ∙ none-where (genuineAt i) in
+          ap (λ (b : Bool). first (lengthRows ++ forgedRow b)) (chosen-noSlot genuineAt count (a .1 .some) (chosen-same _ count genuineAt agree g))
       go (no z) = first-stop lengthRows (forgedRow (not (genuineAt s))) z ∙ sym (first-stop lengthRows (forgedRow (noSlot genuineAt count)) z)
 
   module _ (behind : List Row) where
@@ -168,7 +165,7 @@ module _ (keyLength : ℕ) (ring bytes lens input output scratch : List ℕ) whe
 
     -- a ring's call by its table, whatever rows are put behind the ring's
     by-ring : {result : RingResult} → keeps order (front ++ back) ≡ true → lacks 0 behind ≡ true → lacks 8 behind ≡ true
-        → Settled keyLength ring bytes lens input output scratch (first front) result → FirstRing keyLength ring bytes lens input output scratch (front ++ back) result
+        → Comes keyLength ring bytes lens input output scratch (first front) result → FirstRing keyLength ring bytes lens input output scratch (front ++ back) result
     by-ring k l l8 (stops z) =
         record {
           ordered = k;
@@ -180,14 +177,14 @@ module _ (keyLength : ℕ) (ring bytes lens input output scratch : List ℕ) whe
         }
     by-ring k l l8 (goes {s} z g) =
         let one = opening (slotKey keyLength ring s) bytes lens input output scratch in
-        let number = given-number (first-none (ringRows keyLength (length ring)) behind refl z .0) g in
+        let number = chosen-number (first-none (ringRows keyLength (length ring)) behind refl z .0) g in
         record {
           ordered = k;
           first = subst (FirstDue (front ++ back)) (first-pass front back l z ∙ sym number) (first-due (front ++ back));
           done = one .done;
           forged = one .forged;
           refused = one .refused;
-          slotless = λ m. given-closed _ count g (ne-eqb _ 0 m);
+          slotless = λ m. chosen-closed _ count g (ne-eqb _ 0 m);
         }
 
 -- ---- piecewise calls
@@ -279,15 +276,15 @@ answers-or-first-refusal =
       sealingFromC = λ key header input output scratch ad nonce. from-c _ nonce key output scratch _ refl refl refl;
       openingFromC = λ key header input output scratch ad nonce. from-c _ nonce key output scratch _ refl refl refl;
       openingRing = λ keyLength ring bytes lens input output scratch.
-          by-ring keyLength ring bytes lens input output scratch [] refl refl refl (ring-settles keyLength ring bytes lens input output scratch);
+          by-ring keyLength ring bytes lens input output scratch [] refl refl refl (ring-comes keyLength ring bytes lens input output scratch);
       openingRingFromC = λ keyLength ring header input output scratch ad nonce.
           by-ring keyLength ring header (aeadLens ad nonce) input output scratch (row 10 (eqb nonce 0) ∷ []) refl refl refl
-          (ring-settles-from-c keyLength ring header input output scratch ad nonce);
+          (ring-comes-from-c keyLength ring header input output scratch ad nonce);
       sealingParts = λ key header input output scratch ad nonce. from-c-parts nonce key output scratch _ (seal-count key header (aeadLens ad nonce) input output scratch);
       openingParts = λ key header input output scratch ad nonce. from-c-parts nonce key output scratch _ (omega (arith, open-count key header (aeadLens ad nonce) input output scratch));
       openingRingParts = λ keyLength ring header input output scratch ad nonce.
           ring-parts keyLength ring header (aeadLens ad nonce) input output scratch (row 10 (eqb nonce 0) ∷ [])
-          (ring-settles-from-c keyLength ring header input output scratch ad nonce);
+          (ring-comes-from-c keyLength ring header input output scratch ad nonce);
       beginningSealer = λ key bytes lens. by-table _ _ _ _ refl refl;
       beginningOpener = λ key bytes lens tag. by-table _ _ _ _ refl refl;
       adding = λ s piece. by-table _ _ _ _ refl refl;

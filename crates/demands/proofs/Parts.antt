@@ -8,9 +8,9 @@ use native.Mathlib.Omega.{arith}
 use lib.ListN.{length}
 use Rattle.siv.specs.Answer.{Row, first}
 use Rattle.siv.specs.Calls.{CallResult, limit}
-use Rattle.siv.specs.Ring.{slots, slotKey, ringRows, RingResult}
+use Rattle.siv.specs.Ring.{slotCount, slotKey, ringRows, RingResult}
 use Rattle.siv.proofs.Laws.{first-none, open-count}
-use Rattle.siv.proofs.Ring.{ring-admits, given-within, Settled, goes, stops}
+use Rattle.siv.proofs.Ring.{ring-admits, chosen-within, Comes, goes, stops}
 use Rattle.kinphlor.specs.Interface.{packed, emptyNonce, fromC, packedRing}
 use Rattle.demands.specs.First.{Parts}
 
@@ -33,10 +33,10 @@ from-c-parts nonce key output scratch call h =
     go false e = simp e h
 
 pub ring-parts : (keyLength : ℕ) (ring bytes lens input output scratch : List ℕ) (behind : List Row) {r : RingResult}
-    → Settled keyLength ring bytes lens input output scratch (first (ringRows keyLength (length ring) ++ behind)) r
+    → Comes keyLength ring bytes lens input output scratch (first (ringRows keyLength (length ring) ++ behind)) r
     → Parts (packedRing (r .slot) (r .call .outcome)) (r .call .outcome .number) (r .slot) (r .call .outcome .count)
 ring-parts keyLength ring bytes lens input output scratch behind (goes {s} z g) =
     let whole = ring-admits keyLength (length ring) (first-none (ringRows keyLength (length ring)) behind refl z .0) .1 in
-    let within : s < slots keyLength (length ring) = given-within _ (slots keyLength (length ring)) (whole .some) g in
+    let within : s < slotCount keyLength (length ring) = chosen-within _ (slotCount keyLength (length ring)) (whole .some) g in
     parts _ _ s _ refl (omega (arith, whole .most)) (omega (arith, open-count (slotKey keyLength ring s) bytes lens input output scratch))
 ring-parts keyLength ring bytes lens input output scratch behind (stops z) = parts _ _ 0 0 refl (omega arith) (omega arith)

@@ -7,46 +7,47 @@ use Prim.Native.Nat.{ℕ, _-_, _≤_, _<_}
 use native.Mathlib.Decide.{decLe}
 use native.Mathlib.Nat.{zero-mul}
 use native.Mathlib.Omega.{arith}
+use lib.Dec.{eqb}
 use lib.ListN.{length, take, drop}
 use lib.Seq.{take-length}
 use borrow.Author.Tests.{eqb-true, eq-eqb, ne-eqb}
 use Rattle.header.specs.Header.{total}
 use Rattle.siv.specs.Answer.{Outcome, first}
 use Rattle.siv.specs.Calls.{isKeyLength, scratchNeed, openNumber, openCall}
-use Rattle.siv.specs.Ring.{isRing, slots, slotKey, ringRows, RingResult, openSlot, openRing}
-use Rattle.siv.proofs.Ring.{key-length-some, whole-ring, slot-keyed, Given, found, none, given-within, opensAt, withSlot, Settled, goes, stops, ring-settles}
-use Rattle.kinphlor.specs.Interface.{aeadLens, emptyNonceRing, openRingFromC}
+use Rattle.siv.specs.Ring.{isRing, slotCount, slotKey, ringRows, RingResult, openSlot, openRing}
+use Rattle.siv.proofs.Ring.{key-length-some, whole-ring, slot-keyed, Chosen, found, none, chosen-within, opensAt, withSlot, Comes, goes, stops, ring-comes}
+use Rattle.kinphlor.specs.Interface.{aeadLens, emptyNonce, fromC, openFromC, emptyNonceRing, openRingFromC}
 use Rattle.demands.specs.Ring.{IsRing, Opens, BySlot, SealsUnder, ThirdRing, Ring}
 use Rattle.demands.specs.Whole.{Gives, ThirdWhole}
 use Rattle.demands.proofs.Whole.{accepts-the-sealed}
 
-module _ (keyLength slots′ : ℕ) (ring bytes lens input output scratch : List ℕ) (r : IsRing keyLength slots′ ring) where
+module _ (keyLength slots : ℕ) (ring bytes lens input output scratch : List ℕ) (r : IsRing keyLength slots ring) where
   -- what holds of whole opening with the slot given holds of the ring's call
   by-given : (P : RingResult → Type 0)
-      → ((s : ℕ) → Given (opensAt keyLength ring bytes lens input output scratch) slots′ s → P (withSlot keyLength ring bytes lens input output scratch s))
+      → ((s : ℕ) → Chosen (opensAt keyLength ring bytes lens input output scratch) slots s → P (withSlot keyLength ring bytes lens input output scratch s))
       → P (openRing keyLength ring bytes lens input output scratch)
-  by-given P f = go (ring-settles keyLength ring bytes lens input output scratch)
+  by-given P f = go (ring-comes keyLength ring bytes lens input output scratch)
     where
-      is : (isRing keyLength (length ring) ≡ true) × (slots keyLength (length ring) ≡ slots′)
-      is = whole-ring keyLength slots′ (length ring) (key-length-some keyLength (r .keyed)) (r .whole) (r .some) (r .most)
+      is : (isRing keyLength (length ring) ≡ true) × (slotCount keyLength (length ring) ≡ slots)
+      is = whole-ring keyLength slots (length ring) (key-length-some keyLength (r .keyed)) (r .whole) (r .some) (r .most)
 
-      go : {result : RingResult} → Settled keyLength ring bytes lens input output scratch (first (ringRows keyLength (length ring))) result → P result
-      go (goes {s} z g) = f s (subst (λ (n : ℕ). Given (opensAt keyLength ring bytes lens input output scratch) n s) (is .1) g)
+      go : {result : RingResult} → Comes keyLength ring bytes lens input output scratch (first (ringRows keyLength (length ring))) result → P result
+      go (goes {s} z g) = f s (subst (λ (n : ℕ). Chosen (opensAt keyLength ring bytes lens input output scratch) n s) (is .1) g)
       go (stops z) = absurd (z (simp (r .keyed, is .0)))
 
 -- ---- the slot
 
-module _ (keyLength slots′ : ℕ) (ring bytes lens input output scratch : List ℕ) where
-  by-slot : 1 ≤ slots′ → (s : ℕ) → Given (opensAt keyLength ring bytes lens input output scratch) slots′ s
-      → BySlot keyLength slots′ ring bytes lens input output scratch (withSlot keyLength ring bytes lens input output scratch s)
-  by-slot some s g = record { within = given-within _ slots′ some g; single = refl; smallest = smallest g; otherwise = otherwise g }
+module _ (keyLength slots : ℕ) (ring bytes lens input output scratch : List ℕ) where
+  by-slot : 1 ≤ slots → (s : ℕ) → Chosen (opensAt keyLength ring bytes lens input output scratch) slots s
+      → BySlot keyLength slots ring bytes lens input output scratch (withSlot keyLength ring bytes lens input output scratch s)
+  by-slot some s g = record { within = chosen-within _ slots some g; single = refl; smallest = smallest g; otherwise = otherwise g }
     where
       -- a slot that opens does not fail the test
-      opens-not : {i : ℕ} → Opens keyLength slots′ ring bytes lens input output scratch i → opensAt keyLength ring bytes lens input output scratch i ≡ false → ⊥
+      opens-not : {i : ℕ} → Opens keyLength slots ring bytes lens input output scratch i → opensAt keyLength ring bytes lens input output scratch i ≡ false → ⊥
       opens-not o e = false≢true (sym e ∙ eq-eqb _ 0 (o .1))
 
-      smallest : {s : ℕ} → Given (opensAt keyLength ring bytes lens input output scratch) slots′ s → (i : ℕ) → Opens keyLength slots′ ring bytes lens input output scratch i
-          → Opens keyLength slots′ ring bytes lens input output scratch s × (s ≤ i)
+      smallest : {s : ℕ} → Chosen (opensAt keyLength ring bytes lens input output scratch) slots s → (i : ℕ) → Opens keyLength slots ring bytes lens input output scratch i
+          → Opens keyLength slots ring bytes lens input output scratch s × (s ≤ i)
       smallest (found {s} h t p) i o = ((h, eqb-true _ 0 t), go (decLe s i))
         where
           go : Dec (s ≤ i) → s ≤ i
@@ -54,8 +55,8 @@ module _ (keyLength slots′ : ℕ) (ring bytes lens input output scratch : List
           go (no l) = absurd (opens-not o (p i (omega arith)))
       smallest (none p) i o = absurd (opens-not o (p i (o .0)))
 
-      otherwise : {s : ℕ} → Given (opensAt keyLength ring bytes lens input output scratch) slots′ s
-          → ((i : ℕ) → Opens keyLength slots′ ring bytes lens input output scratch i → ⊥) → s ≡ 0
+      otherwise : {s : ℕ} → Chosen (opensAt keyLength ring bytes lens input output scratch) slots s
+          → ((i : ℕ) → Opens keyLength slots ring bytes lens input output scratch i → ⊥) → s ≡ 0
       otherwise (found {s} h t p) never = absurd (never s (h, eqb-true _ 0 t))
       otherwise (none p) never = refl
 
@@ -78,7 +79,7 @@ module _ (key bytes lens input output scratch : List ℕ) where
           by-given (length key) 1 key bytes lens input output scratch (record { keyed = k; whole = omega arith; some = omega arith; most = omega arith })
           (λ r. r ≡ record { slot = 0; call = openCall key bytes lens input output scratch })
           (λ s g.
-          let at : s ≡ 0 = omega (arith, given-within _ 1 (omega arith) g) in
+          let at : s ≡ 0 = omega (arith, chosen-within _ 1 (omega arith) g) in
           ap (withSlot (length key) key bytes lens input output scratch) at
           ∙ ap (λ (k : List ℕ). record { slot = 0; call = openCall k bytes lens input output scratch }) slot-zero)
       go false k = refused k
@@ -90,44 +91,62 @@ from-c : (keyLength : ℕ) (ring header input output scratch : List ℕ) (ad non
 unfolding openRingFromC emptyNonceRing
 from-c keyLength ring header input output scratch ad nonce n = simp (ne-eqb nonce 0 n, and-false)
 
+one-key-from-c : (key header input output scratch : List ℕ) (ad nonce : ℕ)
+    → openRingFromC (length key) key header ad nonce input output scratch ≡ record { slot = 0; call = openFromC key header ad nonce input output scratch }
+unfolding openRingFromC emptyNonceRing fromC emptyNonce
+one-key-from-c key header input output scratch ad nonce = go (isKeyLength (length key)) refl (eqb nonce 0) refl
+  where
+    same : openRing (length key) key header (aeadLens ad nonce) input output scratch ≡ record { slot = 0; call = openCall key header (aeadLens ad nonce) input output scratch }
+    same = one-key key header (aeadLens ad nonce) input output scratch
+
+    -- a key is a ring of one
+    ring : isKeyLength (length key) ≡ true → isRing (length key) (length key) ≡ true
+    ring k = whole-ring (length key) 1 (length key) (key-length-some (length key) k) (omega arith) (omega arith) (omega arith) .0
+
+    go : (a : Bool) → isKeyLength (length key) ≡ a → (b : Bool) → eqb nonce 0 ≡ b
+        → openRingFromC (length key) key header ad nonce input output scratch ≡ record { slot = 0; call = openFromC key header ad nonce input output scratch }
+    go false k b n = simp k same
+    go true k true n = simp (k, ring k, n)
+    go true k false n = simp (k, ring k, n) same
+
 -- ---- the third demand
 
-module _ (keyLength slots′ : ℕ) (ring bytes lens y output scratch : List ℕ) (r : IsRing keyLength slots′ ring) (few : length lens ≤ 126) (listed : total lens ≡ length bytes)
+module _ (keyLength slots : ℕ) (ring bytes lens y output scratch : List ℕ) (r : IsRing keyLength slots ring) (few : length lens ≤ 126) (listed : total lens ≡ length bytes)
     (roomy : length y - 16 ≤ length output) (scratchy : scratchNeed (length y - 16) ≤ length scratch) where
   -- the third demand for each slot's key
-  by-key : (i : ℕ) → i < slots′ → ThirdWhole (slotKey keyLength ring i) bytes lens y output scratch
+  by-key : (i : ℕ) → i < slots → ThirdWhole (slotKey keyLength ring i) bytes lens y output scratch
   by-key i h =
       accepts-the-sealed (slotKey keyLength ring i) bytes lens y output scratch
-      (record { keyed = slot-keyed keyLength slots′ ring i (r .keyed) (r .whole) h; few = few; listed = listed }) roomy scratchy
+      (record { keyed = slot-keyed keyLength slots ring i (r .keyed) (r .whole) h; few = few; listed = listed }) roomy scratchy
 
-  opens-sealed : (i : ℕ) (P : List ℕ) → SealsUnder keyLength slots′ ring bytes lens y i P → Opens keyLength slots′ ring bytes lens y output scratch i
+  opens-sealed : (i : ℕ) (P : List ℕ) → SealsUnder keyLength slots ring bytes lens y i P → Opens keyLength slots ring bytes lens y output scratch i
   opens-sealed i P (h, p) = (h, ap (λ (o : Outcome). o .number) (by-key i h .accepted P p .0))
 
-  module _ (s : ℕ) (g : Given (opensAt keyLength ring bytes lens y output scratch) slots′ s) where
-    within : s < slots′
-    within = given-within _ slots′ (r .some) g
+  module _ (s : ℕ) (g : Chosen (opensAt keyLength ring bytes lens y output scratch) slots s) where
+    within : s < slots
+    within = chosen-within _ slots (r .some) g
 
-    smallest : (i : ℕ) (P : List ℕ) → SealsUnder keyLength slots′ ring bytes lens y i P
-        → Opens keyLength slots′ ring bytes lens y output scratch s × (s ≤ i)
-    smallest i P p = by-slot keyLength slots′ ring bytes lens y output scratch (r .some) s g .smallest i (opens-sealed i P p)
+    smallest : (i : ℕ) (P : List ℕ) → SealsUnder keyLength slots ring bytes lens y i P
+        → Opens keyLength slots ring bytes lens y output scratch s × (s ≤ i)
+    smallest i P p = by-slot keyLength slots ring bytes lens y output scratch (r .some) s g .smallest i (opens-sealed i P p)
 
     -- something seals to y under the slot given, so no slot before it is the first under which something does
-    is-first : (i : ℕ) (P : List ℕ) → SealsUnder keyLength slots′ ring bytes lens y i P
-        → ((j : ℕ) (Q : List ℕ) → SealsUnder keyLength slots′ ring bytes lens y j Q → i ≤ j) → s ≡ i
+    is-first : (i : ℕ) (P : List ℕ) → SealsUnder keyLength slots ring bytes lens y i P
+        → ((j : ℕ) (Q : List ℕ) → SealsUnder keyLength slots ring bytes lens y j Q → i ≤ j) → s ≡ i
     is-first i P p least = go (decLe i s) (smallest i P p .1)
       where
         go : Dec (i ≤ s) → s ≤ i → s ≡ i
         go (yes l) h = omega arith
         go (no l) h = absurd (by-key s within .refuses (λ Q q. l (least s Q (within, q))) (smallest i P p .0 .1))
 
-    third-ring : ThirdRing keyLength slots′ ring bytes lens y output (withSlot keyLength ring bytes lens y output scratch s)
+    third-ring : ThirdRing keyLength slots ring bytes lens y output (withSlot keyLength ring bytes lens y output scratch s)
     third-ring =
         record {
-          accepts = λ P p. (within, by-key s within .accepts P p);
-          accepted = λ i P p. (smallest i P p .0 .1, smallest i P p .1);
-          acceptedWith = λ i P p least.
+          accepts = λ P p. ((within, by-key s within .accepts P p), λ j Q q. smallest j Q q .1);
+          accepted = λ i P p least.
               let at : s ≡ i = is-first i P p least in
               (subst (λ (j : ℕ). Gives (openSlot keyLength ring bytes lens y output scratch j) output P) (sym at) (by-key i (p .0) .accepted P (p .1)), at);
+          opens = λ i P p. smallest i P p .0 .1;
           refuses = λ never. by-key s within .refuses (λ P p. never s P (within, p));
           wipes = λ never. by-key s within .wipes (λ P p. never s P (within, p));
         }
@@ -135,12 +154,13 @@ module _ (keyLength slots′ : ℕ) (ring bytes lens y output scratch : List ℕ
 pub opens-by-the-smallest-slot : Ring
 opens-by-the-smallest-slot =
     record {
-      bySlot = λ keyLength slots′ ring bytes lens input output scratch r.
-          by-given keyLength slots′ ring bytes lens input output scratch r (BySlot keyLength slots′ ring bytes lens input output scratch)
-          (by-slot keyLength slots′ ring bytes lens input output scratch (r .some));
+      bySlot = λ keyLength slots ring bytes lens input output scratch r.
+          by-given keyLength slots ring bytes lens input output scratch r (BySlot keyLength slots ring bytes lens input output scratch)
+          (by-slot keyLength slots ring bytes lens input output scratch (r .some));
       oneKey = one-key;
       fromC = from-c;
-      third = λ keyLength slots′ ring bytes lens y output scratch r few listed roomy scratchy.
-          by-given keyLength slots′ ring bytes lens y output scratch r (ThirdRing keyLength slots′ ring bytes lens y output)
-          (third-ring keyLength slots′ ring bytes lens y output scratch r few listed roomy scratchy);
+      oneKeyFromC = one-key-from-c;
+      third = λ keyLength slots ring bytes lens y output scratch r few listed roomy scratchy.
+          by-given keyLength slots ring bytes lens y output scratch r (ThirdRing keyLength slots ring bytes lens y output)
+          (third-ring keyLength slots ring bytes lens y output scratch r few listed roomy scratchy);
     }

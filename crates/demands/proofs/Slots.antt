@@ -11,7 +11,7 @@ use lib.ListN.{length}
 use Rattle.siv.specs.Answer.{row, first}
 use Rattle.siv.specs.Calls.{isKeyLength}
 use Rattle.siv.specs.Ring.{isRing, ringRows, openRing}
-use Rattle.siv.proofs.Ring.{Given, found, none, Settled, settled, settles}
+use Rattle.siv.proofs.Ring.{Chosen, found, none, Comes, cameTo, comes}
 use Rattle.kinphlor.specs.Interface.{aeadLens, emptyNonceRing, openRingFromC}
 use Rattle.demands.specs.First.{noSlot}
 
@@ -28,25 +28,25 @@ noSlot-found test (suc n) i h t = go (ℕ-discrete i n) (noSlot-found test n i)
     go (no e) ih = ap (λ (b : Bool). not (test n) && b) (ih (omega arith) t) ∙ and-false (not (test n))
 
 -- no slot passes exactly when the slot given does not
-pub given-noSlot : (test : ℕ → Bool) (n : ℕ) {s : ℕ} → 0 < n → Given test n s → not (test s) ≡ noSlot test n
-given-noSlot test n z (found {s} h t p) = ap not t ∙ sym (noSlot-found test n s h t)
-given-noSlot test n z (none p) = ap not (p 0 z) ∙ sym (noSlot-none test n p)
+pub chosen-noSlot : (test : ℕ → Bool) (n : ℕ) {s : ℕ} → 0 < n → Chosen test n s → not (test s) ≡ noSlot test n
+chosen-noSlot test n z (found {s} h t p) = ap not t ∙ sym (noSlot-found test n s h t)
+chosen-noSlot test n z (none p) = ap not (p 0 z) ∙ sym (noSlot-none test n p)
 
 -- ---- the C interface
 
 module _ (keyLength : ℕ) (ring header input output scratch : List ℕ) (ad nonce : ℕ) where
-  pub ring-settles-from-c : Settled keyLength ring header (aeadLens ad nonce) input output scratch (first (ringRows keyLength (length ring) ++ (row 10 (eqb nonce 0) ∷ [])))
+  pub ring-comes-from-c : Comes keyLength ring header (aeadLens ad nonce) input output scratch (first (ringRows keyLength (length ring) ++ (row 10 (eqb nonce 0) ∷ [])))
       (openRingFromC keyLength ring header ad nonce input output scratch)
   unfolding openRingFromC emptyNonceRing openRing
-  ring-settles-from-c =
-      subst (Settled keyLength ring header (aeadLens ad nonce) input output scratch number) (sym (go (isKeyLength keyLength) refl (isRing keyLength (length ring)) refl (eqb nonce 0) refl))
-      (settles keyLength ring header (aeadLens ad nonce) input output scratch number)
+  ring-comes-from-c =
+      subst (Comes keyLength ring header (aeadLens ad nonce) input output scratch number) (sym (go (isKeyLength keyLength) refl (isRing keyLength (length ring)) refl (eqb nonce 0) refl))
+      (comes keyLength ring header (aeadLens ad nonce) input output scratch number)
     where
       number : ℕ
       number = first (ringRows keyLength (length ring) ++ (row 10 (eqb nonce 0) ∷ []))
 
       go : (a : Bool) → isKeyLength keyLength ≡ a → (b : Bool) → isRing keyLength (length ring) ≡ b → (c : Bool) → eqb nonce 0 ≡ c
-          → openRingFromC keyLength ring header ad nonce input output scratch ≡ settled keyLength ring header (aeadLens ad nonce) input output scratch number
+          → openRingFromC keyLength ring header ad nonce input output scratch ≡ cameTo keyLength ring header (aeadLens ad nonce) input output scratch number
       go false e b f c g = simp e
       go true e false f c g = simp (e, f)
       go true e true f true g = simp (e, f, g)

@@ -18,7 +18,7 @@ use Rattle.ctr.specs.Counter.{xorStream}
 use Rattle.siv.specs.Answer.{first, withoutLength}
 use Rattle.siv.specs.Calls.{limit, scratchNeed}
 use Rattle.siv.specs.Siv.{ctrKey, tagOf, streamed, opened, genuine}
-use Rattle.siv.proofs.Laws.{by-tag, length-streamed, put-over}
+use Rattle.siv.proofs.Laws.{none-where, by-tag, length-streamed, put-over}
 use Rattle.stream.specs.declared.Stream.{Stream}
 use Rattle.stream.specs.State.{ended, fits, added, tagOfState}
 use Rattle.stream.specs.Steps.{StepResult, doneStep, refusedStep, settle, feedRows, turned, streamedAt, addStep, turnStep, writeStep, closeStep, feedStep, finishStep}
@@ -339,11 +339,7 @@ module _ (key bytes lens shared : List ℕ) (a : Admits key bytes lens) where
         (omega (arith, count, length-replicate {A = ℕ} (scratchNeed (length A)) 0))
         (omega (arith, count))
         (omega (arith, count))) in
-        ap (λ (n : ℕ). eqb n 0) number ∙ go (genuine key (strings bytes lens) (T ++ A))
-      where
-        go : (t : Bool) → eqb (cond (not t) 8 0) 0 ≡ t
-        go true = refl
-        go false = refl
+        ap (λ (n : ℕ). eqb n 0) number ∙ none-where (genuine key (strings bytes lens) (T ++ A))
 
     wiped : put o 0 (replicate (length P) 0) ≡ put shared 0 (replicate (length A) 0)
     unfolding o

@@ -4,15 +4,15 @@ use mathlib.Core.Path.{_≡_}
 use mathlib.Core.Bool.{Bool, true, false, not, cond, _&&_}
 use mathlib.Core.List.{List, [], _∷_, _++_}
 use Prim.Native.Nat.{ℕ, zero, suc, _+_, _-_, _/_, _%_}
-use lib.Dec.{eqb}
-use lib.ListN.{length, drop, replicate}
+use lib.Dec.{ltb, eqb}
+use lib.ListN.{length, replicate}
 use Rattle.octets.specs.Octets.{put}
 use Rattle.cmac.specs.Cmac.{zeros}
-use Rattle.header.specs.Header.{strings}
+use Rattle.header.specs.Header.{total, strings}
 use Rattle.siv.specs.declared.Answer.{Answer}
 use Rattle.siv.specs.Answer.{Row, row, outcomeOf}
 use Rattle.siv.specs.Calls.{CallResult, scratchNeed, headerRows, openRows, sealTable, sealCall, openTable, openCall}
-use Rattle.siv.specs.Ring.{slots, slotKey, ringRows, RingResult, openRing}
+use Rattle.siv.specs.Ring.{slotCount, slotKey, ringRows, RingResult, openRing}
 use Rattle.siv.specs.Siv.{sealed, opened, genuine}
 use Rattle.stream.specs.declared.Stream.{Stream}
 use Rattle.stream.specs.State.{ended, start, added, tagOfState}
@@ -85,11 +85,12 @@ noSlot test zero = true
 noSlot test (suc n) = not (test n) && noSlot test n
 
 module _ (keyLength : ℕ) (ring bytes lens input output scratch : List ℕ) where
-  -- the ring's rows: 1, 11 and those that the C interface puts behind them; then those of one key, with 8 where no slot's key opens
+  -- the ring's rows: 1, 11 and those that the C interface puts behind them; then those of one key from 2 on, with 8 where no slot's key opens
   abbrev pub ringTable : List Row → List Row
   ringTable behind =
-      ringRows keyLength (length ring) ++ behind ++ drop 1 (headerRows keyLength lens (length bytes)) ++ openRows (length input) (length output) (length scratch)
-      ++ (row 8 (noSlot (λ i. genuine (slotKey keyLength ring i) (strings bytes lens) input) (slots keyLength (length ring))) ∷ [])
+      ringRows keyLength (length ring) ++ behind ++ (row 2 (ltb 126 (length lens)) ∷ row 3 (not (eqb (total lens) (length bytes))) ∷ [])
+      ++ openRows (length input) (length output) (length scratch)
+      ++ (row 8 (noSlot (λ i. genuine (slotKey keyLength ring i) (strings bytes lens) input) (slotCount keyLength (length ring))) ∷ [])
 
   -- the scratch that the plaintext needs, zero
   abbrev pub scratchCleared : List ℕ

@@ -10,7 +10,7 @@ use Rattle.header.specs.Header.{total}
 use Rattle.siv.specs.Answer.{withoutLength}
 use Rattle.siv.specs.Calls.{isKeyLength, limit, scratchNeed, openCall}
 use Rattle.siv.specs.Ring.{slotKey, RingResult, openSlot, openRing}
-use Rattle.kinphlor.specs.Interface.{aeadLens, openRingFromC}
+use Rattle.kinphlor.specs.Interface.{aeadLens, openFromC, openRingFromC}
 use Rattle.demands.specs.Whole.{Gives, SealsTo}
 
 -- a ring of one to four whole keys
@@ -42,13 +42,11 @@ module _ (keyLength slots : ℕ) (ring bytes lens y : List ℕ) where
   SealsUnder i P = (i < slots) × SealsTo (slotKey keyLength ring i) bytes lens y P
 
   pub record ThirdRing (output : List ℕ) (result : RingResult) : Type 0 where
-    -- where opening accepts y with P, P seals to y under the given slot's key
-    pub accepts : (P : List ℕ) → Gives (result .call) output P → SealsUnder (result .slot) P
-    -- where P seals to y under some key of the ring, opening accepts y, with that slot or an earlier one
-    pub accepted : (i : ℕ) (P : List ℕ) → SealsUnder i P → (result .call .outcome .number ≡ 0) × (result .slot ≤ i)
-    -- and with P, if nothing seals to y under an earlier key
-    pub acceptedWith : (i : ℕ) (P : List ℕ) → SealsUnder i P → ((j : ℕ) (Q : List ℕ) → SealsUnder j Q → i ≤ j)
-        → Gives (result .call) output P × (result .slot ≡ i)
+    -- opening accepts y with P, and gives slot i, exactly when P seals to y under slot i's key and nothing does under an earlier one
+    pub accepts : (P : List ℕ) → Gives (result .call) output P → SealsUnder (result .slot) P × ((j : ℕ) (Q : List ℕ) → SealsUnder j Q → result .slot ≤ j)
+    pub accepted : (i : ℕ) (P : List ℕ) → SealsUnder i P → ((j : ℕ) (Q : List ℕ) → SealsUnder j Q → i ≤ j) → Gives (result .call) output P × (result .slot ≡ i)
+    -- it accepts y where anything seals to y under some key of the ring
+    pub opens : (i : ℕ) (P : List ℕ) → SealsUnder i P → result .call .outcome .number ≡ 0
     -- where nothing seals to y under any key, opening refuses
     pub refuses : ((i : ℕ) (P : List ℕ) → SealsUnder i P → ⊥) → result .call .outcome .number ≡ 0 → ⊥
     -- and if y has 16 to 1,048,592 bytes, it refuses with 8, and every output byte that a plaintext would have taken is zero
@@ -65,6 +63,8 @@ pub record Ring : Type 0 where
   pub third : (keyLength slots : ℕ) (ring bytes lens y output scratch : List ℕ) → IsRing keyLength slots ring → length lens ≤ 126 → total lens ≡ length bytes
       → length y - 16 ≤ length output → scratchNeed (length y - 16) ≤ length scratch
       → ThirdRing keyLength slots ring bytes lens y output (openRing keyLength ring bytes lens y output scratch)
-  -- from C, with a nonce, it is the same call
+  -- from C, with a nonce, it is the same call; and with one key the single call, with or without a nonce
   pub fromC : (keyLength : ℕ) (ring header input output scratch : List ℕ) (ad nonce : ℕ) → (nonce ≡ 0 → ⊥)
       → openRingFromC keyLength ring header ad nonce input output scratch ≡ openRing keyLength ring header (aeadLens ad nonce) input output scratch
+  pub oneKeyFromC : (key header input output scratch : List ℕ) (ad nonce : ℕ)
+      → openRingFromC (length key) key header ad nonce input output scratch ≡ record { slot = 0; call = openFromC key header ad nonce input output scratch }

@@ -1,20 +1,19 @@
 -- Laws of the C interface's definitions.
 -- Assumes nothing.
-use mathlib.Core.Path.{_≡_, refl, ap, ap₂, sym, _∙_}
-use mathlib.Core.Bool.{Bool, true, false, not, cond, _&&_}
+use mathlib.Core.Path.{_≡_, ap, ap₂, sym, _∙_}
+use mathlib.Core.Bool.{true, false}
 use mathlib.Core.List.{List}
 use Prim.Native.Nat.{ℕ, _≤_}
 use native.Mathlib.Nat.{add-zero}
 use native.Mathlib.Omega.{arith}
-use lib.Dec.{eqb}
 use lib.ListN.{length}
 use Rattle.siv.specs.declared.Refusal.{Refusal}
 use Rattle.siv.specs.declared.Refusal.the-variants.{KeyLength, HeaderCount, HeaderLengths, TooLong, SealedLength, OutputShort, ScratchShort, Forged, State, EmptyNonce, RingLength}
 use Rattle.siv.specs.declared.Answer.{Answer}
 use Rattle.siv.specs.declared.RingAnswer.{RingAnswer}
-use Rattle.siv.specs.Answer.{Outcome, first, numberOf, outcomeOf, withoutLength}
-use Rattle.siv.specs.Calls.{isKeyLength, CallResult, DidCall}
-use Rattle.siv.specs.Ring.{isRing, ringRows, DidRing, openRing}
+use Rattle.siv.specs.Answer.{Outcome, numberOf, outcomeOf, withoutLength}
+use Rattle.siv.specs.Calls.{CallResult, DidCall}
+use Rattle.siv.specs.Ring.{DidRing, openRing}
 use Rattle.kinphlor.specs.Interface.{aeadLens, packed, emptyNonce, fromC, DidPacked, packedRing, emptyNonceRing, openRingFromC, DidPackedRing}
 
 -- a refusal's number is small, so that an answer fits in one number
@@ -42,16 +41,6 @@ module _ (nonce : ℕ) (key output scratch : List ℕ) (call : CallResult) where
   call-packed e d p = record { answer = simp e (p ∙ ap (λ (o : Outcome). packed o) (d .outcome)); output = simp e (d .output); scratch = simp e (d .scratch) }
 
 -- ---- a ring of keys
-
--- 10 stands behind the ring's rows
-pub behind-ring : (keyLength n nonce : ℕ) → emptyNonceRing keyLength n nonce ≡ (eqb (first (ringRows keyLength n)) 0 && eqb nonce 0)
-unfolding emptyNonceRing
-behind-ring keyLength n nonce = go (isKeyLength keyLength) (isRing keyLength n)
-  where
-    go : (a b : Bool) → (a && b && eqb nonce 0) ≡ (eqb (cond (not a) 1 (cond (not b) 11 0)) 0 && eqb nonce 0)
-    go false b = refl
-    go true false = refl
-    go true true = refl
 
 module _ (keyLength : ℕ) (ring header : List ℕ) (ad nonce : ℕ) (input output scratch : List ℕ) where
   pub ring-nonce-refused : {r : ℕ} → emptyNonceRing keyLength (length ring) nonce ≡ true → r ≡ packed (withoutLength 10)

@@ -7,9 +7,9 @@ use Prim.Native.Nat.{ℕ, _+_, _*_}
 use lib.Dec.{eqb}
 use lib.ListN.{length}
 use denote.Ref.{now}
-use Rattle.siv.specs.Answer.{Outcome, withoutLength}
+use Rattle.siv.specs.Answer.{Outcome, first, withoutLength}
 use Rattle.siv.specs.Calls.{isKeyLength, CallResult, sealCall, openCall, Lent}
-use Rattle.siv.specs.Ring.{isRing, RingResult, refusedRing, openRing}
+use Rattle.siv.specs.Ring.{ringRows, RingResult, refusedRing, openRing}
 
 -- the header list: associated data, then nonce
 abbrev pub aeadLens : ℕ → ℕ → List ℕ
@@ -57,7 +57,7 @@ packedRing slot o = packed o + slot * 268435456
 
 -- whether an empty nonce is refused, with 10, straight after 1 and 11 for the ring
 unfoldable pub emptyNonceRing : ℕ → ℕ → ℕ → Bool
-emptyNonceRing keyLength n nonce = isKeyLength keyLength && isRing keyLength n && eqb nonce 0
+emptyNonceRing keyLength n nonce = eqb (first (ringRows keyLength n)) 0 && eqb nonce 0
 
 -- opening under a ring from C
 unfoldable pub openRingFromC : ℕ → List ℕ → List ℕ → ℕ → ℕ → List ℕ → List ℕ → List ℕ → RingResult

@@ -97,7 +97,7 @@ fn pack_ring(a: RingAnswer) -> u64
     pack(answer) + (a.slot as u64) * 268435456
 }
 
-// Whether the nonce is empty, and neither key length nor ring is to refuse before it.
+// Whether the nonce is empty, and neither 1 nor 11 is due before it.
 fn empty_nonce_ring(key_len: usize, ring_len: usize, nonce_len: u32) -> bool
     ensures { λ r. ⌜ r ≡ emptyNonceRing «key_len» «ring_len» «nonce_len» ⌝ }
 {

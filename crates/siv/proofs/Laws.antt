@@ -92,6 +92,11 @@ first-none a b l e = go (ℕ-discrete (first a) 0)
     go (yes z) = (z, sym (first-pass a b l z) ∙ e)
     go (no z) = absurd (z (sym (first-stop a b z) ∙ e))
 
+-- where the last row is 8 for a test that fails, none is due where the test is passed
+pub none-where : (b : Bool) → eqb (cond (not b) 8 0) 0 ≡ b
+none-where true = refl
+none-where false = refl
+
 -- ---- which case an answer is
 
 -- no refusal has the number 0
@@ -293,9 +298,9 @@ module _ (key bytes lens input output scratch : List ℕ) where
   rows = headerRows (length key) lens (length bytes) ++ openRows (length input) (length output) (length scratch)
 
   -- a refusal of the judgement is opening's
-  stops : (openJudged ≡ 0 → ⊥) → number ≡ openJudged
+  number-due : (openJudged ≡ 0 → ⊥) → number ≡ openJudged
   unfolding number rows openNumber
-  stops due = first-stop rows (row 8 (not (genuine key (strings bytes lens) input)) ∷ []) due
+  number-due due = first-stop rows (row 8 (not (genuine key (strings bytes lens) input)) ∷ []) due
 
   -- past the judgement the tag decides
   pub by-tag : openJudged ≡ 0 → openNumber key bytes lens input output scratch ≡ cond (not (genuine key (strings bytes lens) input)) 8 0
@@ -311,23 +316,19 @@ module _ (key bytes lens input output scratch : List ℕ) where
   unfolding openCall number
   open-refused answer k e =
       let due : openJudged ≡ 0 → ⊥ = λ z. k (ap (λ (o : Outcome). o .number) e ∙ z) in
-      let off : eqb number 0 ≡ false = ne-eqb number 0 (λ z. due (sym (stops due) ∙ z)) in
-      let off8 : eqb number 8 ≡ false = ne-eqb number 8 (λ z. not-eight (sym (stops due) ∙ z)) in
-      record { outcome = simp off (e ∙ ap withoutLength (sym (stops due))); output = simp (off, off8); scratch = simp (off, off8) }
+      let off : eqb number 0 ≡ false = ne-eqb number 0 (λ z. due (sym (number-due due) ∙ z)) in
+      let off8 : eqb number 8 ≡ false = ne-eqb number 8 (λ z. not-eight (sym (number-due due) ∙ z)) in
+      record { outcome = simp off (e ∙ ap withoutLength (sym (number-due due))); output = simp (off, off8); scratch = simp (off, off8) }
 
   -- a refusal of the judgement is the call's number
   pub open-due : (openJudged ≡ 0 → ⊥) → openCall key bytes lens input output scratch .outcome .number ≡ openJudged
   unfolding openCall number
-  open-due due = stops due
+  open-due due = number-due due
 
   -- past the judgement the number is 0 where the string is genuine
   pub open-number : openJudged ≡ 0 → eqb (openCall key bytes lens input output scratch .outcome .number) 0 ≡ genuine key (strings bytes lens) input
   unfolding openCall number
-  open-number judged = ap (λ (n : ℕ). eqb n 0) (by-tag judged) ∙ go (genuine key (strings bytes lens) input)
-    where
-      go : (g : Bool) → eqb (cond (not g) 8 0) 0 ≡ g
-      go true = refl
-      go false = refl
+  open-number judged = ap (λ (n : ℕ). eqb n 0) (by-tag judged) ∙ none-where (genuine key (strings bytes lens) input)
 
   -- a number of 0 passed the judgement
   pub open-passed : openNumber key bytes lens input output scratch ≡ 0 → openJudged ≡ 0
@@ -343,7 +344,7 @@ module _ (key bytes lens input output scratch : List ℕ) where
       go true e = omega (arith, open-admits (open-passed (eqb-true _ 0 e)) .limited)
       go false e = omega arith
 
-  -- and what was read of a genuine string, or zeros, are in the output
+  -- past the judgement what was read of a genuine string, or zeros, are in the output
   pub open-delivered : (g : Bool) → genuine key (strings bytes lens) input ≡ g → openJudged ≡ 0 → (answer : Answer) (read output′ scratch′ : List ℕ)
       → outcomeOf answer ≡ cond g (success (length input - 16)) (withoutLength 8) → (g ≡ true → read ≡ opened key input)
       → output′ ≡ put output 0 (cond g read (replicate (length input - 16) 0)) → scratch′ ≡ put scratch 0 (replicate (scratchNeed (length input - 16)) 0)

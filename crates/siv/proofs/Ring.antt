@@ -2,7 +2,7 @@
 -- Assumes nothing.
 use mathlib.Core.Path.{_≡_, refl, ap, sym, subst, _∙_}
 use mathlib.Core.Bool.{Bool, true, false, false≢true, cond, _||_, or-true}
-use mathlib.Core.List.{List, [], _++_}
+use mathlib.Core.List.{List, _++_}
 use Prim.Native.Nat.{ℕ, zero, suc, _+_, _-_, _*_, _≤_, _<_}
 use native.Mathlib.Decide.{ℕ-discrete, decLt}
 use native.Mathlib.Nat.{sub-zero, div-eq-of-eq-mul-left, mul-le-mul-right}
@@ -16,7 +16,7 @@ use Rattle.siv.specs.declared.Answer.{Answer}
 use Rattle.siv.specs.declared.RingAnswer.{RingAnswer}
 use Rattle.siv.specs.Answer.{Outcome, Row, first, outcomeOf, success, withoutLength}
 use Rattle.siv.specs.Calls.{isKeyLength, limit, scratchNeed, headerRows, openRows, DidCall}
-use Rattle.siv.specs.Ring.{isRing, slots, slotKey, firstSlot, ringRows, RingResult, refusedRing, DidRing, openSlot, openRing}
+use Rattle.siv.specs.Ring.{isRing, slotCount, slotKey, firstSlot, ringRows, RingResult, refusedRing, DidRing, openSlot, openRing}
 use Rattle.siv.specs.Siv.{opened, genuine}
 use Rattle.siv.proofs.Laws.{first-none, first-pass, first-stop, openJudged, open-admits, open-due, open-count, open-number, open-refused, open-delivered, length-opened, text-read, scratch-wiped}
 
@@ -29,9 +29,9 @@ key-length-some (suc n) e = omega arith
 
 -- a ring is one to four slots, and nothing behind them
 pub record RingWhole (keyLength n : ℕ) : Type 0 where
-  pub whole : slots keyLength n * keyLength ≡ n
-  pub some : 1 ≤ slots keyLength n
-  pub most : slots keyLength n ≤ 4
+  pub whole : slotCount keyLength n * keyLength ≡ n
+  pub some : 1 ≤ slotCount keyLength n
+  pub most : slotCount keyLength n ≤ 4
 
 pub ring-whole : (keyLength n : ℕ) → 0 < keyLength → isRing keyLength n ≡ true → RingWhole keyLength n
 unfolding isRing
@@ -40,7 +40,7 @@ ring-whole keyLength n k r =
   where
     at : (s : ℕ) → n ≡ s * keyLength → 1 ≤ s → s ≤ 4 → RingWhole keyLength n
     at s e some most =
-        let count : slots keyLength n ≡ s = div-eq-of-eq-mul-left k e in
+        let count : slotCount keyLength n ≡ s = div-eq-of-eq-mul-left k e in
         record { whole = ap (λ (m : ℕ). m * keyLength) count ∙ sym e; some = omega arith; most = omega arith }
 
     go : (a b c : Bool) → (a ≡ true → n ≡ keyLength) → (b ≡ true → n ≡ 2 * keyLength) → (c ≡ true → n ≡ 3 * keyLength) → (a || b || c || eqb n (4 * keyLength)) ≡ true
@@ -50,9 +50,9 @@ ring-whole keyLength n k r =
     go false false true f g h t = at 3 (h refl) (omega arith) (omega arith)
     go false false false f g h t = at 4 (eqb-true n (4 * keyLength) t) (omega arith) (omega arith)
 
-pub whole-ring : (keyLength slots′ n : ℕ) → 0 < keyLength → n ≡ slots′ * keyLength → 1 ≤ slots′ → slots′ ≤ 4 → (isRing keyLength n ≡ true) × (slots keyLength n ≡ slots′)
+pub whole-ring : (keyLength slots n : ℕ) → 0 < keyLength → n ≡ slots * keyLength → 1 ≤ slots → slots ≤ 4 → (isRing keyLength n ≡ true) × (slotCount keyLength n ≡ slots)
 unfolding isRing
-whole-ring keyLength slots′ n k e some most = (go slots′ e some most, div-eq-of-eq-mul-left k e)
+whole-ring keyLength slots n k e some most = (go slots e some most, div-eq-of-eq-mul-left k e)
   where
     go : (s : ℕ) → n ≡ s * keyLength → 1 ≤ s → s ≤ 4 → isRing keyLength n ≡ true
     go zero e some most = absurd (omega arith)
@@ -83,17 +83,17 @@ ring-admits keyLength n e = go (isKeyLength keyLength) refl (isRing keyLength n)
     go false p true q = absurd (due (simp (p, q)))
     go false p false q = absurd (due (simp (p, q)))
 
-pub slot-within : (i slots′ keyLength : ℕ) → i < slots′ → i * keyLength + keyLength ≤ slots′ * keyLength
-slot-within i slots′ keyLength h = omega (arith, mul-le-mul-right keyLength h)
+pub slot-within : (i slots keyLength : ℕ) → i < slots → i * keyLength + keyLength ≤ slots * keyLength
+slot-within i slots keyLength h = omega (arith, mul-le-mul-right keyLength h)
 
 pub length-slotKey : (keyLength : ℕ) (ring : List ℕ) (i : ℕ) → i * keyLength + keyLength ≤ length ring → length (slotKey keyLength ring i) ≡ keyLength
 length-slotKey keyLength ring i h = simp (length-take, length-drop) (omega (arith, h))
 
 -- the key of a ring's slot is a key
-pub slot-keyed : (keyLength slots′ : ℕ) (ring : List ℕ) (i : ℕ) → isKeyLength keyLength ≡ true → length ring ≡ slots′ * keyLength → i < slots′
+pub slot-keyed : (keyLength slots : ℕ) (ring : List ℕ) (i : ℕ) → isKeyLength keyLength ≡ true → length ring ≡ slots * keyLength → i < slots
     → isKeyLength (length (slotKey keyLength ring i)) ≡ true
-slot-keyed keyLength slots′ ring i k e h =
-    ap isKeyLength (length-slotKey keyLength ring i (omega (arith, slot-within i slots′ keyLength h))) ∙ k
+slot-keyed keyLength slots ring i k e h =
+    ap isKeyLength (length-slotKey keyLength ring i (omega (arith, slot-within i slots keyLength h))) ∙ k
 
 -- ---- the first slot that passes a test
 
@@ -152,54 +152,54 @@ module _ (test : ℕ → Bool) (count n : ℕ) (scratch : List ℕ) where
   pub searching-all : (used : List ℕ) → Searching test count n scratch used 0 → count ≡ firstSlot test 0 count
   searching-all used s = sym (sub-zero count) ∙ s .first
 
--- ---- the slot that is given
+-- ---- the slot that is chosen
 
 -- the first of n slots that passes a test, or slot 0 where none does
-pub data Given (test : ℕ → Bool) (n : ℕ) : ℕ → Type 0 where
-  found : {s : ℕ} → s < n → test s ≡ true → ((i : ℕ) → i < s → test i ≡ false) → Given test n s
-  none : ((i : ℕ) → i < n → test i ≡ false) → Given test n 0
+pub data Chosen (test : ℕ → Bool) (n : ℕ) : ℕ → Type 0 where
+  found : {s : ℕ} → s < n → test s ≡ true → ((i : ℕ) → i < s → test i ≡ false) → Chosen test n s
+  none : ((i : ℕ) → i < n → test i ≡ false) → Chosen test n 0
 
 module _ (test : ℕ → Bool) (n : ℕ) where
-  pub given-found : {s : ℕ} → s ≡ firstSlot test 0 n → s < n → Given test n s
-  given-found e h =
+  pub chosen-found : {s : ℕ} → s ≡ firstSlot test 0 n → s < n → Chosen test n s
+  chosen-found e h =
       found h (ap test e ∙ firstSlot-found test 0 n (omega (arith, e))) (λ i l. firstSlot-passed test 0 n i (omega arith) (omega (arith, e)))
 
-  pub given-none : n ≤ firstSlot test 0 n → Given test n 0
-  given-none h = none (λ i l. firstSlot-passed test 0 n i (omega arith) (omega arith))
+  pub chosen-none : n ≤ firstSlot test 0 n → Chosen test n 0
+  chosen-none h = none (λ i l. firstSlot-passed test 0 n i (omega arith) (omega arith))
 
-  given : let f = firstSlot test 0 n in
-      Given test n (cond (ltb f n) f 0)
-  given = go (ltb (firstSlot test 0 n) n) refl
+  chosen : let f = firstSlot test 0 n in
+      Chosen test n (cond (ltb f n) f 0)
+  chosen = go (ltb (firstSlot test 0 n) n) refl
     where
-      go : (t : Bool) → ltb (firstSlot test 0 n) n ≡ t → Given test n (cond t (firstSlot test 0 n) 0)
-      go true e = given-found refl (ltb-true (firstSlot test 0 n) n e)
-      go false e = given-none (ltb-false (firstSlot test 0 n) n e)
+      go : (t : Bool) → ltb (firstSlot test 0 n) n ≡ t → Chosen test n (cond t (firstSlot test 0 n) 0)
+      go true e = chosen-found refl (ltb-true (firstSlot test 0 n) n e)
+      go false e = chosen-none (ltb-false (firstSlot test 0 n) n e)
 
-  pub given-within : {s : ℕ} → 0 < n → Given test n s → s < n
-  given-within z (found h t p) = h
-  given-within z (none p) = z
+  pub chosen-within : {s : ℕ} → 0 < n → Chosen test n s → s < n
+  chosen-within z (found h t p) = h
+  chosen-within z (none p) = z
 
-  -- a slot given that does not pass is slot 0
-  pub given-closed : {s : ℕ} → Given test n s → test s ≡ false → s ≡ 0
-  given-closed (found h t p) e = absurd (false≢true (sym e ∙ t))
-  given-closed (none p) e = refl
+  -- a slot chosen that does not pass is slot 0
+  pub chosen-closed : {s : ℕ} → Chosen test n s → test s ≡ false → s ≡ 0
+  chosen-closed (found h t p) e = absurd (false≢true (sym e ∙ t))
+  chosen-closed (none p) e = refl
 
   -- tests that agree on the slots give the same one
-  pub given-same : {s : ℕ} (test′ : ℕ → Bool) → ((i : ℕ) → i < n → test i ≡ test′ i) → Given test n s → Given test′ n s
-  given-same test′ same (found {s} h t p) = found h (sym (same s h) ∙ t) (λ i l. sym (same i (omega arith)) ∙ p i l)
-  given-same test′ same (none p) = none (λ i h. sym (same i h) ∙ p i h)
+  pub chosen-same : {s : ℕ} (test′ : ℕ → Bool) → ((i : ℕ) → i < n → test i ≡ test′ i) → Chosen test n s → Chosen test′ n s
+  chosen-same test′ same (found {s} h t p) = found h (sym (same s h) ∙ t) (λ i l. sym (same i (omega arith)) ∙ p i l)
+  chosen-same test′ same (none p) = none (λ i h. sym (same i h) ∙ p i h)
 
   -- there is one such slot
-  pub given-one : {s s′ : ℕ} → Given test n s → Given test n s′ → s ≡ s′
-  given-one (found {s} h t p) (found {s = s′} h′ t′ p′) = go (decLt s s′) (decLt s′ s)
+  pub chosen-one : {s s′ : ℕ} → Chosen test n s → Chosen test n s′ → s ≡ s′
+  chosen-one (found {s} h t p) (found {s = s′} h′ t′ p′) = go (decLt s s′) (decLt s′ s)
     where
       go : Dec (s < s′) → Dec (s′ < s) → s ≡ s′
       go (yes l) d = absurd (false≢true (sym (p′ s l) ∙ t))
       go (no l) (yes l′) = absurd (false≢true (sym (p s′ l′) ∙ t′))
       go (no l) (no l′) = omega arith
-  given-one (found {s} h t p) (none q) = absurd (false≢true (sym (q s h) ∙ t))
-  given-one (none q) (found {s} h t p) = absurd (false≢true (sym (q s h) ∙ t))
-  given-one (none p) (none q) = refl
+  chosen-one (found {s} h t p) (none q) = absurd (false≢true (sym (q s h) ∙ t))
+  chosen-one (none q) (found {s} h t p) = absurd (false≢true (sym (q s h) ∙ t))
+  chosen-one (none p) (none q) = refl
 
 -- ---- the call
 
@@ -212,29 +212,29 @@ module _ (keyLength : ℕ) (ring bytes lens input output scratch : List ℕ) whe
   withSlot s = record { slot = s; call = openSlot keyLength ring bytes lens input output scratch s }
 
   -- what the call comes to where n is the number of the refusals that judge the ring
-  pub data Settled (n : ℕ) : RingResult → Type 0 where
-    goes : {s : ℕ} → n ≡ 0 → Given opensAt (slots keyLength (length ring)) s → Settled n (withSlot s)
-    stops : (n ≡ 0 → ⊥) → Settled n (refusedRing n output scratch)
+  pub data Comes (n : ℕ) : RingResult → Type 0 where
+    goes : {s : ℕ} → n ≡ 0 → Chosen opensAt (slotCount keyLength (length ring)) s → Comes n (withSlot s)
+    stops : (n ≡ 0 → ⊥) → Comes n (refusedRing n output scratch)
 
-  abbrev pub settled : ℕ → RingResult
-  settled n =
-      let count = slots keyLength (length ring) in
+  abbrev pub cameTo : ℕ → RingResult
+  cameTo n =
+      let count = slotCount keyLength (length ring) in
       let f = firstSlot opensAt 0 count in
       cond (eqb n 0) (withSlot (cond (ltb f count) f 0)) (refusedRing n output scratch)
 
-  pub settles : (n : ℕ) → Settled n (settled n)
-  settles n = go (eqb n 0) refl
+  pub comes : (n : ℕ) → Comes n (cameTo n)
+  comes n = go (eqb n 0) refl
     where
       go : (t : Bool) → eqb n 0 ≡ t
-          → let count = slots keyLength (length ring) in
+          → let count = slotCount keyLength (length ring) in
           let f = firstSlot opensAt 0 count in
-          Settled n (cond t (withSlot (cond (ltb f count) f 0)) (refusedRing n output scratch))
-      go true e = goes (eqb-true n 0 e) (given opensAt (slots keyLength (length ring)))
+          Comes n (cond t (withSlot (cond (ltb f count) f 0)) (refusedRing n output scratch))
+      go true e = goes (eqb-true n 0 e) (chosen opensAt (slotCount keyLength (length ring)))
       go false e = stops (eqb-false n 0 e)
 
-  pub ring-settles : Settled (first (ringRows keyLength (length ring))) (openRing keyLength ring bytes lens input output scratch)
+  pub ring-comes : Comes (first (ringRows keyLength (length ring))) (openRing keyLength ring bytes lens input output scratch)
   unfolding openRing
-  ring-settles = settles (first (ringRows keyLength (length ring)))
+  ring-comes = comes (first (ringRows keyLength (length ring)))
 
 -- ---- the call's judgement
 
@@ -254,21 +254,21 @@ module _ (keyLength : ℕ) (ring bytes lens input output scratch : List ℕ) whe
   ring-judged e = first-none (ringRows keyLength (length ring)) restRows refl e
 
   -- with any slot's key the judgement is the same
-  slot-judged : first (ringRows keyLength (length ring)) ≡ 0 → (i : ℕ) → i < slots keyLength (length ring)
+  slot-judged : first (ringRows keyLength (length ring)) ≡ 0 → (i : ℕ) → i < slotCount keyLength (length ring)
       → openJudged (slotKey keyLength ring i) bytes lens input output scratch ≡ restJudged
   slot-judged z i h =
       ap (λ (m : ℕ). first (headerRows m lens (length bytes) ++ openRows (length input) (length output) (length scratch)))
-      (length-slotKey keyLength ring i (omega (arith, slot-within i (slots keyLength (length ring)) keyLength h, ring-admits keyLength (length ring) z .1 .whole)))
+      (length-slotKey keyLength ring i (omega (arith, slot-within i (slotCount keyLength (length ring)) keyLength h, ring-admits keyLength (length ring) z .1 .whole)))
 
-  pub slot-passed : ringJudged ≡ 0 → (i : ℕ) → i < slots keyLength (length ring) → openJudged (slotKey keyLength ring i) bytes lens input output scratch ≡ 0
+  pub slot-passed : ringJudged ≡ 0 → (i : ℕ) → i < slotCount keyLength (length ring) → openJudged (slotKey keyLength ring i) bytes lens input output scratch ≡ 0
   slot-passed e i h = slot-judged (ring-judged e .0) i h ∙ ring-judged e .1
 
   -- a refusal of the judgement is the ring's
   pub ring-refused : (answer : Answer) → (outcomeOf answer .number ≡ 0 → ⊥) → outcomeOf answer ≡ withoutLength ringJudged
       → DidRing (openRing keyLength ring bytes lens input output scratch) (record { answer = answer; slot = 0 }) output scratch
-  ring-refused answer k e = go (ring-settles keyLength ring bytes lens input output scratch)
+  ring-refused answer k e = go (ring-comes keyLength ring bytes lens input output scratch)
     where
-      go : {result : RingResult} → Settled keyLength ring bytes lens input output scratch (first (ringRows keyLength (length ring))) result
+      go : {result : RingResult} → Comes keyLength ring bytes lens input output scratch (first (ringRows keyLength (length ring))) result
           → DidRing result (record { answer = answer; slot = 0 }) output scratch
       go (stops z) =
           record {
@@ -277,68 +277,78 @@ module _ (keyLength : ℕ) (ring bytes lens input output scratch : List ℕ) whe
           }
       go (goes {s} z g) =
           let pass : ringJudged ≡ restJudged = first-pass (ringRows keyLength (length ring)) restRows refl z in
-          let judged = slot-judged z s (given-within _ _ (ring-admits keyLength (length ring) z .1 .some) g) in
+          let judged = slot-judged z s (chosen-within _ _ (ring-admits keyLength (length ring) z .1 .some) g) in
           let due : openJudged (slotKey keyLength ring s) bytes lens input output scratch ≡ 0 → ⊥ = λ y. k (ap (λ (o : Outcome). o .number) e ∙ pass ∙ sym judged ∙ y) in
           let closed : opensAt keyLength ring bytes lens input output scratch s ≡ false =
           ne-eqb (openSlot keyLength ring bytes lens input output scratch s .outcome .number) 0 (λ y. due (sym (open-due (slotKey keyLength ring s) bytes lens input output scratch due) ∙ y)) in
-          record { slot = sym (given-closed _ _ g closed); call = open-refused (slotKey keyLength ring s) bytes lens input output scratch answer k (e ∙ ap withoutLength (pass ∙ sym judged)) }
+          record { slot = sym (chosen-closed _ _ g closed); call = open-refused (slotKey keyLength ring s) bytes lens input output scratch answer k (e ∙ ap withoutLength (pass ∙ sym judged)) }
 
   -- past the judgement a slot's key opens where the string is genuine under it
   ring-tried : ringJudged ≡ 0 → (given : RingAnswer) (last last′ : List ℕ)
-      → Given (λ i. genuine (slotKey keyLength ring i) (strings bytes lens) input) (slots keyLength (length ring)) (given .slot)
+      → Chosen (λ i. genuine (slotKey keyLength ring i) (strings bytes lens) input) (slotCount keyLength (length ring)) (given .slot)
       → DidCall (openSlot keyLength ring bytes lens input output scratch (given .slot)) (given .answer) last last′
       → DidRing (openRing keyLength ring bytes lens input output scratch) given last last′
-  ring-tried e given last last′ g d = go (ring-settles keyLength ring bytes lens input output scratch)
+  ring-tried e given last last′ g d = go (ring-comes keyLength ring bytes lens input output scratch)
     where
-      go : {result : RingResult} → Settled keyLength ring bytes lens input output scratch (first (ringRows keyLength (length ring))) result → DidRing result given last last′
+      go : {result : RingResult} → Comes keyLength ring bytes lens input output scratch (first (ringRows keyLength (length ring))) result → DidRing result given last last′
       go (stops z) = absurd (z (ring-judged e .0))
       go (goes {s} z g′) =
-          let opens = given-same _ _ (λ i. genuine (slotKey keyLength ring i) (strings bytes lens) input)
+          let opens = chosen-same _ _ (λ i. genuine (slotKey keyLength ring i) (strings bytes lens) input)
           (λ i h. open-number (slotKey keyLength ring i) bytes lens input output scratch (slot-passed e i h)) g′ in
-          let at : given .slot ≡ s = given-one _ _ g opens in
+          let at : given .slot ≡ s = chosen-one _ _ g opens in
           record { slot = at; call = subst (λ (i : ℕ). DidCall (openSlot keyLength ring bytes lens input output scratch i) (given .answer) last last′) at d }
 
   -- what the search and the delivery after it come to: r is the search's result, and used what it left in the scratch
-  module _ (judged : ringJudged ≡ 0) (r : ℕ) (answer : Answer) (used output′ scratch′ : List ℕ)
-      (search : r ≡ firstSlot (λ i. genuine (slotKey keyLength ring i) (strings bytes lens) input) 0 (slots keyLength (length ring)))
-      (rest : drop (length input - 16) used ≡ drop (length input - 16) scratch) (wiped : scratch′ ≡ put used 0 (replicate (scratchNeed (length input - 16)) 0)) where
-    test : ℕ → Bool
-    test i = genuine (slotKey keyLength ring i) (strings bytes lens) input
+  pub ring-delivered : ringJudged ≡ 0 → (r : ℕ) → r ≡ firstSlot (λ i. genuine (slotKey keyLength ring i) (strings bytes lens) input) 0 (slotCount keyLength (length ring))
+      → (given : RingAnswer) (used output′ scratch′ : List ℕ) → given .slot ≡ cond (ltb r (slotCount keyLength (length ring))) r 0
+      → (r < slotCount keyLength (length ring) → used ≡ put scratch 0 (opened (slotKey keyLength ring r) input))
+      → outcomeOf (given .answer) ≡ cond (ltb r (slotCount keyLength (length ring))) (success (length input - 16)) (withoutLength 8)
+      → output′ ≡ put output 0 (cond (ltb r (slotCount keyLength (length ring))) (take (length input - 16) used) (replicate (length input - 16) 0))
+      → drop (length input - 16) used ≡ drop (length input - 16) scratch → scratch′ ≡ put used 0 (replicate (scratchNeed (length input - 16)) 0)
+      → DidRing (openRing keyLength ring bytes lens input output scratch) given output′ scratch′
+  ring-delivered judged r search given used output′ scratch′ at text o p rest wiped = go (ltb r count) (ltb-true r count) (ltb-false r count) at o p
+    where
+      count : ℕ
+      count = slotCount keyLength (length ring)
 
-    pub ring-found : r < slots keyLength (length ring) → used ≡ put scratch 0 (opened (slotKey keyLength ring r) input) → outcomeOf answer ≡ success (length input - 16)
-        → output′ ≡ put output 0 (take (length input - 16) used)
-        → DidRing (openRing keyLength ring bytes lens input output scratch) (record { answer = answer; slot = r }) output′ scratch′
-    unfolding test
-    ring-found h text o p =
-        let key = slotKey keyLength ring r in
-        let passed = slot-passed judged r h in
-        let long : length (opened key input) ≡ length input - 16 = length-opened key input in
-        let opens : test r ≡ true = ap test search ∙ firstSlot-found test 0 (slots keyLength (length ring)) (omega (arith, search, h)) in
-        ring-tried judged _ output′ scratch′ (given-found test (slots keyLength (length ring)) search h)
-        (open-delivered key bytes lens input output scratch true opens passed answer (take (length input - 16) used) output′ scratch′ o
-        (λ _. text-read (opened key input) scratch text (sym long) (omega (arith, long, open-admits key bytes lens input output scratch passed .scratchy))) p
-        (scratch-wiped scratch used (length input - 16) rest wiped))
+      test : ℕ → Bool
+      test i = genuine (slotKey keyLength ring i) (strings bytes lens) input
 
-    pub ring-none : slots keyLength (length ring) ≤ r → outcomeOf answer ≡ withoutLength 8 → output′ ≡ put output 0 (replicate (length input - 16) 0)
-        → DidRing (openRing keyLength ring bytes lens input output scratch) (record { answer = answer; slot = 0 }) output′ scratch′
-    unfolding test
-    ring-none h o p =
-        let some = ring-admits keyLength (length ring) (ring-judged judged .0) .1 .some in
-        let closed : test 0 ≡ false = firstSlot-passed test 0 (slots keyLength (length ring)) 0 (omega arith) (omega (arith, search, h, some)) in
-        ring-tried judged _ output′ scratch′ (given-none test (slots keyLength (length ring)) (omega (arith, search, h)))
-        (open-delivered (slotKey keyLength ring 0) bytes lens input output scratch false closed (slot-passed judged 0 some) answer [] output′ scratch′ o (λ e. absurd (false≢true e)) p
-        (scratch-wiped scratch used (length input - 16) rest wiped))
+      some : 1 ≤ count
+      some = ring-admits keyLength (length ring) (ring-judged judged .0) .1 .some
+
+      -- the slot chosen, the test of its key, and what was read where it is passed
+      by : (s : ℕ) (g : Bool) → given .slot ≡ s → s < count → Chosen test count s → test s ≡ g → (g ≡ true → take (length input - 16) used ≡ opened (slotKey keyLength ring s) input)
+          → outcomeOf (given .answer) ≡ cond g (success (length input - 16)) (withoutLength 8) → output′ ≡ put output 0 (cond g (take (length input - 16) used) (replicate (length input - 16) 0))
+          → DidRing (openRing keyLength ring bytes lens input output scratch) given output′ scratch′
+      by s g e h c t read o p =
+          ring-tried judged given output′ scratch′ (subst (Chosen test count) (sym e) c)
+          (subst (λ (i : ℕ). DidCall (openSlot keyLength ring bytes lens input output scratch i) (given .answer) output′ scratch′) (sym e)
+          (open-delivered (slotKey keyLength ring s) bytes lens input output scratch g t (slot-passed judged s h) (given .answer) (take (length input - 16) used) output′ scratch′ o read p
+          (scratch-wiped scratch used (length input - 16) rest wiped)))
+
+      go : (g : Bool) → (g ≡ true → r < count) → (g ≡ false → count ≤ r) → given .slot ≡ cond g r 0 → outcomeOf (given .answer) ≡ cond g (success (length input - 16)) (withoutLength 8)
+          → output′ ≡ put output 0 (cond g (take (length input - 16) used) (replicate (length input - 16) 0)) → DidRing (openRing keyLength ring bytes lens input output scratch) given output′ scratch′
+      go true below past e o p =
+          let h = below refl in
+          let key = slotKey keyLength ring r in
+          let long : length (opened key input) ≡ length input - 16 = length-opened key input in
+          by r true e h (chosen-found test count search h) (ap test search ∙ firstSlot-found test 0 count (omega (arith, search, h)))
+          (λ _. text-read (opened key input) scratch (text h) (sym long) (omega (arith, long, open-admits key bytes lens input output scratch (slot-passed judged r h) .scratchy))) o p
+      go false below past e o p =
+          by 0 false e some (chosen-none test count (omega (arith, search, past refl))) (firstSlot-passed test 0 count 0 (omega arith) (omega (arith, search, past refl, some)))
+          (λ t. absurd (false≢true t)) o p
 
   -- slot and length are small, so that both fit in one number with the answer's
   pub ring-small : (given : RingAnswer) (last last′ : List ℕ) → DidRing (openRing keyLength ring bytes lens input output scratch) given last last′
       → (given .slot ≤ 3) × (outcomeOf (given .answer) .count ≤ limit)
-  ring-small given last last′ d = go (ring-settles keyLength ring bytes lens input output scratch) (d .slot) (ap (λ (o : Outcome). o .count) (d .call .outcome))
+  ring-small given last last′ d = go (ring-comes keyLength ring bytes lens input output scratch) (d .slot) (ap (λ (o : Outcome). o .count) (d .call .outcome))
     where
-      go : {result : RingResult} → Settled keyLength ring bytes lens input output scratch (first (ringRows keyLength (length ring))) result → given .slot ≡ result .slot
+      go : {result : RingResult} → Comes keyLength ring bytes lens input output scratch (first (ringRows keyLength (length ring))) result → given .slot ≡ result .slot
           → outcomeOf (given .answer) .count ≡ result .call .outcome .count → (given .slot ≤ 3) × (outcomeOf (given .answer) .count ≤ limit)
       go (stops z) s n = (omega arith, omega arith)
       go (goes {s = i} z g) s n =
           let whole = ring-admits keyLength (length ring) z .1 in (
-            omega (arith, given-within (opensAt keyLength ring bytes lens input output scratch) (slots keyLength (length ring)) (whole .some) g, whole .most),
+            omega (arith, chosen-within (opensAt keyLength ring bytes lens input output scratch) (slotCount keyLength (length ring)) (whole .some) g, whole .most),
             omega (arith, open-count (slotKey keyLength ring i) bytes lens input output scratch),
           )

@@ -12,13 +12,13 @@ use Rattle.siv.specs.declared.RingAnswer.{RingAnswer}
 use Rattle.siv.specs.Answer.{Row, row, first, withoutLength}
 use Rattle.siv.specs.Calls.{isKeyLength, CallResult, DidCall, openCall, Lent}
 
--- a ring is one to four whole keys of the stated length
+-- whether n bytes are one to four whole keys of the stated length
 unfoldable pub isRing : ℕ → ℕ → Bool
 isRing keyLength n = eqb n keyLength || eqb n (2 * keyLength) || eqb n (3 * keyLength) || eqb n (4 * keyLength)
 
--- a slot holds one key
-abbrev pub slots : ℕ → ℕ → ℕ
-slots keyLength n = n / keyLength
+-- how many slots they are, and the key in slot i
+abbrev pub slotCount : ℕ → ℕ → ℕ
+slotCount keyLength n = n / keyLength
 
 abbrev pub slotKey : ℕ → List ℕ → ℕ → List ℕ
 slotKey keyLength ring i = part ring (i * keyLength) keyLength
@@ -55,7 +55,7 @@ module _ (keyLength : ℕ) (ring bytes lens input output scratch : List ℕ) whe
   unfoldable pub openRing : RingResult
   openRing =
       let refusal = first (ringRows keyLength (length ring)) in
-      let count = slots keyLength (length ring) in
+      let count = slotCount keyLength (length ring) in
       let found = firstSlot (λ i. eqb (openSlot i .outcome .number) 0) 0 count in
       let slot = cond (ltb found count) found 0 in
       cond (eqb refusal 0) (record { slot = slot; call = openSlot slot }) (refusedRing refusal output scratch)

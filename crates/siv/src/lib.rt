@@ -148,14 +148,15 @@ pub fn open_ring(
     }
     let slots = ring.len() / key_len;
     let slot = work::first_slot(key_len, slots, ring, header, lens, input, scratch);
+    let delivered = work::deliver(slot < slots, y - TAG_LEN, output, scratch);
     if slot < slots {
         return RingAnswer {
-            answer: work::deliver(true, y - TAG_LEN, output, scratch),
+            answer: delivered,
             slot: slot,
         };
     }
     RingAnswer {
-        answer: work::deliver(false, y - TAG_LEN, output, scratch),
+        answer: delivered,
         slot: 0,
     }
 }

@@ -93,7 +93,7 @@ fn opens(
     octets::same_block(t, v)
 }
 
-// Opens under one key.
+// Opens an admitted string under one key, with a table of its own.
 pub(crate) fn open_admitted(
     key: &[u8],
     header: &[u8],

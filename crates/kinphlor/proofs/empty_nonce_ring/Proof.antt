@@ -8,7 +8,7 @@ use borrow.Author.Tests.{eq-eqb, ne-eqb}
 use Rattle.siv.specs.Answer.{Outcome, first}
 use Rattle.siv.specs.Ring.{ringRows}
 use Rattle.siv.proofs.Laws.{told-refused, passed}
-use Rattle.kinphlor.proofs.Laws.{behind-ring}
+use Rattle.kinphlor.specs.Interface.{emptyNonceRing}
 use Rattle.kinphlor.proofs.empty_nonce_ring.Statement.{statement}
 use Rattle.kinphlor.proofs.empty_nonce_ring.Tie as tie
 
@@ -19,22 +19,24 @@ enum-told : tie.Need-enum-told
 enum-told c = search needs
 
 returns : tie.Need-returns
+unfolding emptyNonceRing
 returns c =
     let args = c .before .before .before .args in
     let judged = c .before .before .judge-ring in
     let due = ne-eqb (first (ringRows (args .key-len) (args .ring-len))) 0
     (λ z. told-refused (judged .result) (c .before .match .keys1) (ap (λ (o : Outcome). o .number) (judged .ensures) ∙ z)) in
-    sym (behind-ring (args .key-len) (args .ring-len) (args .nonce-len) ∙ ap (λ (t : Bool). t && eqb (args .nonce-len) 0) due)
+    sym (ap (λ (t : Bool). t && eqb (args .nonce-len) 0) due)
 
 enum-told-2 : tie.Need-enum-told-2
 enum-told-2 c = search needs
 
 returns-2 : tie.Need-returns-2
+unfolding emptyNonceRing
 returns-2 c =
     let args = c .before .before .before .args in
     let judged = c .before .before .judge-ring in
     let none = eq-eqb (first (ringRows (args .key-len) (args .ring-len))) 0 (passed (judged .result) _ (c .before .match .keys2) (judged .ensures)) in
-    sym (behind-ring (args .key-len) (args .ring-len) (args .nonce-len) ∙ ap (λ (t : Bool). t && eqb (args .nonce-len) 0) none)
+    sym (ap (λ (t : Bool). t && eqb (args .nonce-len) 0) none)
 
 pub empty-nonce-ring-spec : {M : Type 1} → statement M
 empty-nonce-ring-spec =

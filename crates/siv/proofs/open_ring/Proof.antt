@@ -1,15 +1,16 @@
 -- `siv::open_ring` meets its contract.
 -- Assumes nothing.
-use mathlib.Core.Path.{_≡_}
-use mathlib.Core.Bool.{true}
+use mathlib.Core.Path.{_≡_, ap, sym}
+use mathlib.Core.Bool.{Bool, true, cond}
 use Prim.Native.Nat.{_-_}
 use native.Mathlib.Omega.{arith}
 use lib.ListN.{length}
 use borrow.Author.Needs.{needs}
+use borrow.Author.Tests.{lt-ltb, le-ltb}
 use Rattle.siv.specs.Calls.{isKeyLength}
 use Rattle.siv.specs.Ring.{slotKey}
 use Rattle.siv.proofs.Laws.{told-refused, passed, OpenAdmits, open-admits}
-use Rattle.siv.proofs.Ring.{key-length-some, RingWhole, ring-admits, ringJudged, ring-judged, slot-passed, ring-refused, ring-found, ring-none}
+use Rattle.siv.proofs.Ring.{key-length-some, RingWhole, ring-admits, ringJudged, ring-judged, slot-passed, ring-refused, ring-delivered}
 use Rattle.siv.proofs.open_ring.Statement.{statement}
 use Rattle.siv.proofs.open_ring.Tie as tie
 
@@ -59,12 +60,12 @@ first-slot-requires c κs =
     (whole (c .before .before) .0, whole (c .before .before) .1 .whole, omega (arith, a .listed), a .tagged, omega (arith, a .scratchy))
 
 sub-deliver : tie.Need-sub-deliver
-sub-deliver c = admits (c .before .before .before .before .before .before) .tagged
+sub-deliver c = admits (c .before .before .before .before .before) .tagged
 
 deliver-requires : tie.Need-deliver-requires
 deliver-requires c κs =
-    let a = admits (c .before .before .before .before .before .before .before .before) in
-    (a .roomy, omega (arith, a .scratchy, c .before .before .before .before .before .first-slot .kept .1 .1 .1 .1 .1 .1 .0))
+    let a = admits (c .before .before .before .before .before .before .before) in
+    (a .roomy, omega (arith, a .scratchy, c .before .before .before .before .first-slot .kept .1 .1 .1 .1 .1 .1 .0))
 
 same-length : tie.Need-same-length
 same-length c = search needs
@@ -74,20 +75,11 @@ same-length-2 c = search needs
 
 returns-2 : tie.Need-returns-2
 returns-2 c =
-    let done = c .before .before .before .before in
-    let tested = done .before .before .before in
-    let searched = tested .before .before .before in
+    let done = c .before .before .before .before .before in
+    let searched = done .before .before .before .before .before in
     let search = searched .first-slot .ensures in
-    ring-found _ _ _ _ _ _ _ (judged (searched .before .before .before)) _ _ _ _ _ (search .0) (search .1 .1) (done .deliver .ensures .1 .1) (tested .if1 .taken)
-    (search .1 .0 (tested .if1 .taken)) (done .deliver .ensures .0) (done .deliver .ensures .1 .0)
-
-sub-deliver-2 : tie.Need-sub-deliver-2
-sub-deliver-2 c = omega (arith, admits (c .before .before .before .before .before .before) .tagged)
-
-deliver-requires-2 : tie.Need-deliver-requires-2
-deliver-requires-2 c κs =
-    let a = admits (c .before .before .before .before .before .before .before .before) in
-    omega (arith, a .roomy, a .scratchy, c .before .before .before .before .before .first-slot .kept .1 .1 .1 .1 .1 .1 .0)
+    ring-delivered _ _ _ _ _ _ _ (judged (searched .before .before .before)) _ (search .0) _ _ _ _ (sym (ap (λ (t : Bool). cond t (searched .first-slot .result) 0) (lt-ltb _ _ (c .if1 .taken))))
+    (search .1 .0) (done .deliver .ensures .0) (done .deliver .ensures .1 .0) (search .1 .1) (done .deliver .ensures .1 .1)
 
 same-length-3 : tie.Need-same-length-3
 same-length-3 c = search needs
@@ -97,12 +89,11 @@ same-length-4 c = search needs
 
 returns-3 : tie.Need-returns-3
 returns-3 c =
-    let done = c .before .before .before .before in
-    let tested = done .before .before .before in
-    let searched = tested .before .before .before in
+    let done = c .before .before .before .before .before in
+    let searched = done .before .before .before .before .before in
     let search = searched .first-slot .ensures in
-    ring-none _ _ _ _ _ _ _ (judged (searched .before .before .before)) _ _ _ _ _ (search .0) (search .1 .1) (done .deliver2 .ensures .1 .1) (tested .if1 .left)
-    (done .deliver2 .ensures .0) (done .deliver2 .ensures .1 .0)
+    ring-delivered _ _ _ _ _ _ _ (judged (searched .before .before .before)) _ (search .0) _ _ _ _ (sym (ap (λ (t : Bool). cond t (searched .first-slot .result) 0) (le-ltb _ _ (c .if1 .left))))
+    (search .1 .0) (done .deliver .ensures .0) (done .deliver .ensures .1 .0) (search .1 .1) (done .deliver .ensures .1 .1)
 
 pub open-ring-spec : {M : Type 1} → statement M
 open-ring-spec =
@@ -119,8 +110,6 @@ open-ring-spec =
     same-length
     same-length-2
     returns-2
-    sub-deliver-2
-    deliver-requires-2
     same-length-3
     same-length-4
     returns-3)
