@@ -76,7 +76,7 @@ enum kinphlor_answer {
     KINPHLOR_SEALED_LENGTH = 5,  /* sealed record under 16 bytes */
     KINPHLOR_OUTPUT_SHORT = 6,   /* output too short */
     KINPHLOR_SCRATCH_SHORT = 7,  /* scratch too short */
-    KINPHLOR_FORGED = 8,         /* not sealed under this header and this key, or any of the ring: damaged or forged */
+    KINPHLOR_FORGED = 8,         /* not sealed under this header and key (or a key of the ring): damaged or forged */
     KINPHLOR_STATE = 9,          /* a stream state that is not one for the call; never from these functions */
     KINPHLOR_EMPTY_NONCE = 10,   /* nonce_len is 0 */
     KINPHLOR_RING_LENGTH = 11    /* ring_len is not one to four times key_len; from kinphlor_open_ring alone */
@@ -110,7 +110,7 @@ static inline size_t kinphlor_scratch_len(size_t n) { return n < KINPHLOR_SCRATC
 static inline const char *kinphlor_text(uint32_t number) {
     switch (number) {
     case KINPHLOR_OK: return "success";
-    case KINPHLOR_KEY_LENGTH: return "the key has not 32, 48 or 64 bytes";
+    case KINPHLOR_KEY_LENGTH: return "the key length is not 32, 48 or 64";
     case KINPHLOR_HEADER_COUNT: return "more than 126 header strings";
     case KINPHLOR_HEADER_LENGTHS: return "the lengths of associated data and nonce do not sum to the header's";
     case KINPHLOR_TOO_LONG: return "the plaintext is over 1,048,576 bytes, or the sealed record over 1,048,592";

@@ -7,7 +7,7 @@ use shared::peers::{Libcrypto, Libgcrypt, Peer};
 use shared::random::Random;
 use std::ffi::c_int;
 use std::time::Duration;
-use Function::{Open, Seal};
+use Function::{Open, OpenRing, Seal};
 
 #[repr(C)]
 struct Timespec {
@@ -110,7 +110,8 @@ impl Call<'_> {
                 peer.seal_to(self.key, &self.header, self.input, &mut self.output);
                 true
             }
-            (Some(peer), _) => peer.open_to(self.key, &self.header, self.input, &mut self.output),
+            (Some(peer), Open) => peer.open_to(self.key, &self.header, self.input, &mut self.output),
+            (Some(_), OpenRing(_)) => fail("no peer has a ring".to_string()),
         };
         if !done {
             fail("a call that is timed was refused".to_string());

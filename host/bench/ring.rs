@@ -14,7 +14,7 @@ const LENS: [usize; 2] = [40, 65_536];
 /// The most that the ring's time may be, over that of the four openings.
 const MOST: f64 = 1.0;
 
-/// The two differ by less than a hundredth, which takes more turns to tell.
+/// The two differ by a hundredth or less on long records, which takes more turns to tell.
 const TURNS: usize = 301;
 
 struct Row {

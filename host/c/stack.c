@@ -68,6 +68,10 @@ int main(void)
                     printf("stack: a call was refused with %u\n", (unsigned)kinphlor_number(answer));
                     return 1;
                 }
+                if (kinphlor_slot(answer) != (function == OPEN_RING ? KINPHLOR_RING_MAX - 1 : 0)) {
+                    printf("stack: slot %u opened\n", (unsigned)kinphlor_slot(answer));
+                    return 1;
+                }
                 most = n > most ? n : most;
             }
         }

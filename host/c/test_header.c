@@ -123,7 +123,7 @@ static void rings(size_t key_len) {
             CHECK_OPENING("a byte too many", open_ring(key_len, count * key_len + 1), KINPHLOR_RING_LENGTH, 0);
         }
         CHECK_OPENING("five keys", open_ring(key_len, 5 * key_len), KINPHLOR_RING_LENGTH, 0);
-        CHECK_OPENING("keys of no length", open_ring(key_len - 1, 2 * (key_len - 1)), KINPHLOR_KEY_LENGTH, 0);
+        CHECK_OPENING("a length that is no key's", open_ring(key_len - 1, 2 * (key_len - 1)), KINPHLOR_KEY_LENGTH, 0);
     }
 }
 

@@ -276,6 +276,7 @@ static void show_changing(const uint8_t ring[KEYS * KEY_LEN], const uint8_t key[
         printf("  %-14s %u, %s\n", "slot", (unsigned)kinphlor_slot(result), names[slot]);
     } else {
         must("a record under neither key is refused with 8", is(result, KINPHLOR_FORGED, 0));
+        must("a refusal has slot 0", kinphlor_slot(result) == 0);
         must("its output is zeros", memcmp(opened, ZEROS, RECORD_LEN) == 0);
         show("output", opened, RECORD_LEN, "wiped");
         show_answer(result);
