@@ -51,7 +51,7 @@ module _ (keyLength : ℕ) (ring bytes lens input output scratch : List ℕ) whe
   abbrev pub openSlot : ℕ → CallResult
   openSlot i = openCall (slotKey keyLength ring i) bytes lens input output scratch
 
-  -- the first slot whose key opens, or slot 0, and whole opening with its key
+  -- a refusal of the stated length or the ring; or the first slot whose key opens, or slot 0 where none does, and whole opening with its key
   unfoldable pub openRing : RingResult
   openRing =
       let refusal = first (ringRows keyLength (length ring)) in
