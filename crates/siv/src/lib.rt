@@ -141,22 +141,13 @@ pub fn open_ring(
         scratch.len(),
     );
     if let Answer::Refused(_) = answer {
-        return RingAnswer {
-            answer: answer,
-            slot: 0,
-        };
+        return RingAnswer { answer, slot: 0 };
     }
     let slots = ring.len() / key_len;
     let slot = work::first_slot(key_len, slots, ring, header, lens, input, scratch);
-    let delivered = work::deliver(slot < slots, y - TAG_LEN, output, scratch);
+    let answer = work::deliver(slot < slots, y - TAG_LEN, output, scratch);
     if slot < slots {
-        return RingAnswer {
-            answer: delivered,
-            slot: slot,
-        };
+        return RingAnswer { answer, slot };
     }
-    RingAnswer {
-        answer: delivered,
-        slot: 0,
-    }
+    RingAnswer { answer, slot: 0 }
 }
