@@ -8,9 +8,9 @@ use native.Mathlib.Omega.{arith}
 use lib.ListN.{length}
 use Rattle.siv.specs.Answer.{Row, first}
 use Rattle.siv.specs.Calls.{CallResult, limit}
-use Rattle.siv.specs.Ring.{slotCount, slotKey, ringRows, RingResult}
-use Rattle.siv.proofs.Laws.{first-none, open-count}
-use Rattle.siv.proofs.Ring.{ring-admits, chosen-within, Comes, goes, stops}
+use Rattle.siv.specs.Ring.{ringRows, RingResult}
+use Rattle.siv.proofs.Laws.{first-none}
+use Rattle.siv.proofs.Ring.{Comes, comes-small}
 use Rattle.kinphlor.specs.Interface.{packed, emptyNonce, fromC, packedRing}
 use Rattle.demands.specs.First.{Parts}
 
@@ -35,8 +35,6 @@ from-c-parts nonce key output scratch call h =
 pub ring-parts : (keyLength : ℕ) (ring bytes lens input output scratch : List ℕ) (behind : List Row) {r : RingResult}
     → Comes keyLength ring bytes lens input output scratch (first (ringRows keyLength (length ring) ++ behind)) r
     → Parts (packedRing (r .slot) (r .call .outcome)) (r .call .outcome .number) (r .slot) (r .call .outcome .count)
-ring-parts keyLength ring bytes lens input output scratch behind (goes {s} z g) =
-    let whole = ring-admits keyLength (length ring) (first-none (ringRows keyLength (length ring)) behind refl z .0) .1 in
-    let within : s < slotCount keyLength (length ring) = chosen-within _ (slotCount keyLength (length ring)) (whole .some) g in
-    parts _ _ s _ refl (omega (arith, whole .most)) (omega (arith, open-count (slotKey keyLength ring s) bytes lens input output scratch))
-ring-parts keyLength ring bytes lens input output scratch behind (stops z) = parts _ _ 0 0 refl (omega arith) (omega arith)
+ring-parts keyLength ring bytes lens input output scratch behind {r} c =
+    let small = comes-small keyLength ring bytes lens input output scratch (λ z. first-none (ringRows keyLength (length ring)) behind refl z .0) c in
+    parts _ _ (r .slot) _ refl (omega (arith, small .0)) (omega (arith, small .1))

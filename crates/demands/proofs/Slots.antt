@@ -27,7 +27,7 @@ noSlot-found test (suc n) i h t = go (ℕ-discrete i n) (noSlot-found test n i)
     go (yes e) ih = ap (λ (b : Bool). not b && noSlot test n) (ap test (sym e) ∙ t)
     go (no e) ih = ap (λ (b : Bool). not (test n) && b) (ih (omega arith) t) ∙ and-false (not (test n))
 
--- no slot passes exactly when the slot given does not
+-- no slot passes exactly when the slot chosen does not
 pub chosen-noSlot : (test : ℕ → Bool) (n : ℕ) {s : ℕ} → 0 < n → Chosen test n s → not (test s) ≡ noSlot test n
 chosen-noSlot test n z (found {s} h t p) = ap not t ∙ sym (noSlot-found test n s h t)
 chosen-noSlot test n z (none p) = ap not (p 0 z) ∙ sym (noSlot-none test n p)

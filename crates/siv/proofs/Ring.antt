@@ -340,15 +340,17 @@ module _ (keyLength : ℕ) (ring bytes lens input output scratch : List ℕ) whe
           (λ t. absurd (false≢true t)) o p
 
   -- slot and length are small, so that both fit in one number with the answer's
+  pub comes-small : {n : ℕ} {result : RingResult} → (n ≡ 0 → first (ringRows keyLength (length ring)) ≡ 0) → Comes keyLength ring bytes lens input output scratch n result
+      → (result .slot ≤ 3) × (result .call .outcome .count ≤ limit)
+  comes-small f (stops z) = (omega arith, omega arith)
+  comes-small f (goes {s} z g) =
+      let whole = ring-admits keyLength (length ring) (f z) .1 in (
+        omega (arith, chosen-within (opensAt keyLength ring bytes lens input output scratch) (slotCount keyLength (length ring)) (whole .some) g, whole .most),
+        omega (arith, open-count (slotKey keyLength ring s) bytes lens input output scratch),
+      )
+
   pub ring-small : (given : RingAnswer) (last last′ : List ℕ) → DidRing (openRing keyLength ring bytes lens input output scratch) given last last′
       → (given .slot ≤ 3) × (outcomeOf (given .answer) .count ≤ limit)
-  ring-small given last last′ d = go (ring-comes keyLength ring bytes lens input output scratch) (d .slot) (ap (λ (o : Outcome). o .count) (d .call .outcome))
-    where
-      go : {result : RingResult} → Comes keyLength ring bytes lens input output scratch (first (ringRows keyLength (length ring))) result → given .slot ≡ result .slot
-          → outcomeOf (given .answer) .count ≡ result .call .outcome .count → (given .slot ≤ 3) × (outcomeOf (given .answer) .count ≤ limit)
-      go (stops z) s n = (omega arith, omega arith)
-      go (goes {s = i} z g) s n =
-          let whole = ring-admits keyLength (length ring) z .1 in (
-            omega (arith, chosen-within (opensAt keyLength ring bytes lens input output scratch) (slotCount keyLength (length ring)) (whole .some) g, whole .most),
-            omega (arith, open-count (slotKey keyLength ring i) bytes lens input output scratch),
-          )
+  ring-small given last last′ d =
+      let small = comes-small (λ z. z) (ring-comes keyLength ring bytes lens input output scratch) in
+      (omega (arith, small .0, d .slot), omega (arith, small .1, ap (λ (o : Outcome). o .count) (d .call .outcome)))

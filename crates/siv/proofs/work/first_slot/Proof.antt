@@ -1,4 +1,4 @@
--- `siv::work::first_slot` meets its contract.
+-- `siv::work::first_slot` meets its contract: where so many slots are left, no key of those before them opened.
 -- Assumes nothing.
 use mathlib.Core.Path.{ap, sym, subst, _∙_}
 use Prim.Native.Nat.{_-_}
