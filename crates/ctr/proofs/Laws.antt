@@ -6,9 +6,9 @@ use Prim.Native.Nat.{ℕ, zero, suc, _+_, _-_, _*_, _/_, _≤_}
 use native.Mathlib.Nat.{add-zero, add-suc}
 use native.Mathlib.Omega.{arith}
 use lib.ListN.{length, take, drop, length-append, length-drop, take-append-drop}
-use lib.Seq.{take-all, take-take, take-append-le, take-add, drop-at, drop-drop, drop-append-add, length-take-le}
+use lib.Seq.{take-all, take-take, take-append-le, drop-drop, drop-append-add, length-take-le}
 use Rattle.octets.specs.Octets.{xors}
-use Rattle.octets.proofs.Strings.{length-xors, xors-undo, xors-append, take-xors}
+use Rattle.octets.proofs.Strings.{length-xors, xors-undo, xors-append, take-xors, drop-take}
 use Rattle.ctr.specs.Counter.{clear, plus, streamBlocks, keyStream, xorStream}
 
 -- ---- strings
@@ -19,10 +19,6 @@ xors-take s t =
     ap (λ (l : List ℕ). xors l (take (length s) t)) (sym (take-all (length s) s (omega arith)))
     ∙ sym (take-xors (length s) s t)
     ∙ take-all (length s) (xors s t) (omega (arith, length-xors s t))
-
--- a part of a prefix
-drop-take : (p n : ℕ) (l : List ℕ) → p ≤ length l → drop p (take (p + n) l) ≡ take n (drop p l)
-drop-take p n l h = ap (drop p) (take-add p n l) ∙ drop-at (take p l) (take n (drop p l)) p (length-take-le p l h)
 
 -- ---- the key stream
 
@@ -74,7 +70,7 @@ module _ (E : List ℕ → List ℕ) (sized : (b : List ℕ) → length (E b) �
       let whole : p + length (a ++ b) ≡ m = omega (arith, length-append a b) in
       let long : length K ≡ m = length-keyStream m in
       let front : take (length a) (drop p K) ≡ drop p (keyStream E v (p + length a)) =
-      sym (drop-take p (length a) K (omega arith)) ∙ ap (drop p) (take-keyStream (p + length a) m (omega arith)) in
+      sym (drop-take p (length a) K) ∙ ap (drop p) (take-keyStream (p + length a) m (omega arith)) in
       let count : length a ≡ length (take (length a) (drop p K)) =
       sym (length-take-le (length a) (drop p K) (simp length-drop (omega arith))) in
       ap (λ (n : ℕ). xors (a ++ b) (drop p (keyStream E v n))) whole
@@ -92,7 +88,7 @@ module _ (E : List ℕ → List ℕ) (sized : (b : List ℕ) → length (E b) �
       let size : length (streamBlocks E v i) ≡ 16 * i = length-streamBlocks i in
       let long : length X ≡ 16 * i + 16 = length-append (streamBlocks E v i) B ∙ omega (arith, sized (plus (clear v) i)) in
       ap (λ (t : List ℕ). xors s (drop p t)) (sym (keyStream-blocks (p + length s) (suc i) (omega arith)))
-      ∙ ap (xors s) (drop-take p (length s) X (omega arith))
+      ∙ ap (xors s) (drop-take p (length s) X)
       ∙ xors-take s (drop p X)
       ∙ ap (λ (n : ℕ). xors s (drop (n + k) X)) (sym size)
       ∙ ap (xors s) (drop-append-add (streamBlocks E v i) B k)

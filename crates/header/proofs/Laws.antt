@@ -1,15 +1,16 @@
 -- Laws of `total` and `strings`: joined lists of lengths, one string more, and a loop that counts the lengths.
 -- Assumes nothing.
-use mathlib.Core.Path.{_≡_, refl, sym, ap, _∙_}
+use mathlib.Core.Path.{_≡_, refl, sym, ap, ap₂, _∙_}
 use mathlib.Core.Bool.{false}
 use mathlib.Core.List.{List, [], _∷_, _++_}
-use Prim.Native.Nat.{ℕ, _+_, _-_, _≤_, _<_, zero-le}
+use Prim.Native.Nat.{ℕ, suc, _+_, _-_, _≤_, _<_, zero-le}
 use native.Mathlib.Numerals.{add-one}
 use native.Mathlib.Omega.{arith}
 use lib.Dec.{eqb}
 use lib.ListN.{length, take, drop, getD, take-append-drop}
-use lib.Seq.{take-suc, take-all, drop-drop}
+use lib.Seq.{take-suc, take-all, take-take, drop-drop}
 use borrow.Author.Tests.{eqb-true, eq-eqb, ne-eqb}
+use Rattle.octets.proofs.Strings.{drop-take}
 use Rattle.octets.proofs.Tests.{bool-ext}
 use Rattle.header.specs.Header.{total, strings}
 
@@ -27,6 +28,20 @@ strings-append bytes (n ∷ a) b =
     ap (λ (l : List (List ℕ)). take n bytes ∷ l)
     (strings-append (drop n bytes) a b
     ∙ ap (λ (l : List ℕ). strings (drop n bytes) a ++ strings l b) (drop-drop (total a) n bytes))
+
+-- a string for each length
+pub length-strings : (bytes lens : List ℕ) → length (strings bytes lens) ≡ length lens
+unfolding strings
+length-strings bytes [] = refl
+length-strings bytes (n ∷ lens) = ap suc (length-strings (drop n bytes) lens)
+
+-- the strings are found in as many bytes as they have
+pub strings-within : (bytes lens : List ℕ) → strings (take (total lens) bytes) lens ≡ strings bytes lens
+unfolding strings total
+strings-within bytes [] = refl
+strings-within bytes (n ∷ lens) =
+    ap₂ (λ (s : List ℕ) (l : List (List ℕ)). s ∷ l) (take-take n (n + total lens) bytes (omega arith))
+    (ap (λ (l : List ℕ). strings l lens) (drop-take n (total lens) bytes) ∙ strings-within (drop n bytes) lens)
 
 -- a front of the lengths sums to no more than all
 pub total-take : (lens : List ℕ) (i : ℕ) → total (take i lens) ≤ total lens

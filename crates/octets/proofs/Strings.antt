@@ -4,13 +4,13 @@ use mathlib.Core.Path.{_≡_, refl, sym, ap, ap₂, _∙_}
 use mathlib.Core.Bool.{true, false≢true, _&&_, and-eq-true-iff}
 use mathlib.Core.List.{List, [], _∷_, _++_, append-assoc, append-nil}
 use Prim.Native.Nat.{ℕ, zero, suc, _+_, _-_, _≤_, _<_, zero-le}
-use native.Mathlib.Nat.{le-of-suc-le-suc, not-suc-le-zero}
+use native.Mathlib.Nat.{zero-add, suc-add, le-of-suc-le-suc, not-suc-le-zero}
 use native.Mathlib.Numerals.{add-one}
 use native.Mathlib.Omega.{arith}
 use lib.Bits.{bitXor, bitOr, xor-zero-r, xor-self}
 use lib.Dec.{eqb}
 use lib.ListN.{length, take, drop, getD, set, length-append, length-drop, length-set}
-use lib.Seq.{paste, paste-zero, paste-suc, take-length, drop-length, length-take-le, take-at, drop-at, drop-drop, take-suc, take-take, take-all, getD-take}
+use lib.Seq.{paste, paste-zero, paste-suc, take-length, drop-length, length-take-le, take-at, drop-at, drop-drop, take-suc, take-nil, take-take, take-all, getD-take}
 use borrow.Author.Tests.{eqb-true, eq-eqb}
 use Rattle.octets.specs.Octets.{xors, put, part, entries, same}
 use Rattle.octets.proofs.Bits.{xor-undo, xor-zero, or-zero}
@@ -78,6 +78,12 @@ part-to l at n =
 -- all that is left from a place on, as `&s[at..]` has it
 pub part-rest : (l : List ℕ) (at : ℕ) → part l at (length l - at) ≡ drop at l
 part-rest l at = take-all (length l - at) (drop at l) (simp length-drop (omega arith))
+
+-- the end of a front of a string
+pub drop-take : (at n : ℕ) (l : List ℕ) → drop at (take (at + n) l) ≡ take n (drop at l)
+drop-take zero n l = ap (λ (k : ℕ). take k l) (zero-add n)
+drop-take (suc at) n [] = ap (drop (suc at)) (take-nil (suc at + n)) ∙ sym (take-nil n)
+drop-take (suc at) n (x ∷ l) = ap (λ (k : ℕ). drop (suc at) (take k (x ∷ l))) (suc-add at n) ∙ drop-take at n l
 
 entries-tail : (n i x : ℕ) (l : List ℕ) → entries n (suc i) (x ∷ l) ≡ entries n i l
 entries-tail zero i x l = refl

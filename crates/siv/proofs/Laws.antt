@@ -3,14 +3,14 @@
 use mathlib.Core.Path.{_≡_, refl, ap, ap₂, sym, subst, _∙_}
 use mathlib.Core.Bool.{Bool, true, false, not, false≢true, cond, _&&_, _||_, and-eq-true-iff}
 use mathlib.Core.List.{List, [], _∷_, _++_}
-use Prim.Native.Nat.{ℕ, suc, _+_, _-_, _/_, _≤_}
-use native.Mathlib.Decide.{ℕ-discrete}
+use Prim.Native.Nat.{ℕ, suc, _+_, _-_, _/_, _≤_, _<_}
+use native.Mathlib.Decide.{decLt, ℕ-discrete}
 use native.Mathlib.Nat.{zero-add}
 use native.Mathlib.Omega.{arith}
 use lib.Dec.{eqb, ltb}
 use lib.ListN.{length, take, drop, replicate, length-drop, length-replicate}
 use lib.Seq.{drop-at, drop-drop}
-use borrow.Author.Tests.{eqb-true, eq-eqb, ne-eqb, ltb-false, not-false}
+use borrow.Author.Tests.{eqb-true, eq-eqb, ne-eqb, lt-ltb, le-ltb, ltb-false, not-false}
 use types.Run.{OneOf}
 use denote.Enum.Declared as declared
 use Rattle.octets.specs.Octets.{put, same}
@@ -97,6 +97,14 @@ pub none-where : (b : Bool) → eqb (cond (not b) 8 0) 0 ≡ b
 none-where true = refl
 none-where false = refl
 
+-- a sum past a limit, told without the sum
+pub sum-passes : (most total n : ℕ) → total ≤ most → ltb (most - total) n ≡ ltb most (total + n)
+sum-passes most total n h = go (decLt (most - total) n)
+  where
+    go : Dec (most - total < n) → ltb (most - total) n ≡ ltb most (total + n)
+    go (yes k) = lt-ltb (most - total) n k ∙ sym (lt-ltb most (total + n) (omega arith))
+    go (no k) = le-ltb (most - total) n (omega arith) ∙ sym (le-ltb most (total + n) (omega arith))
+
 -- ---- which case an answer is
 
 -- no refusal has the number 0
@@ -121,6 +129,11 @@ told-refused (Refused r) k e = refusal-number r e
 pub told-ok : (a : Answer) → OneOf (0 ∷ []) (declared.tagOf the-type a) → outcomeOf a .number ≡ 0
 told-ok (Ok n) k = refl
 told-ok (Refused r) k = let z : _≡_ {A = ℕ} 1 0 = k in absurd (omega arith)
+
+-- a refusal has length 0
+pub told-length : (a : Answer) → OneOf (1 ∷ []) (declared.tagOf the-type a) → outcomeOf a ≡ withoutLength (outcomeOf a .number)
+told-length (Ok n) k = let z : _≡_ {A = ℕ} 0 1 = k in absurd (omega arith)
+told-length (Refused r) k = refl
 
 -- past a judgement none was due
 pub passed : (a : Answer) (n : ℕ) → OneOf (0 ∷ []) (declared.tagOf the-type a) → outcomeOf a ≡ withoutLength n → n ≡ 0

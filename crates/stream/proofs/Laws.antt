@@ -5,7 +5,7 @@ use mathlib.Core.Bool.{Bool, true, false, not, cond, _&&_, and-eq-true-iff}
 use mathlib.Core.List.{List, [], _∷_, _++_, append-assoc}
 use Prim.Native.Nat.{ℕ, suc, _+_, _-_, _*_, _/_, _%_, _≤_, _<_}
 use native.Mathlib.Numerals.{add-one}
-use native.Mathlib.Decide.{decLt}
+use native.Mathlib.Decide.{decLt, ℕ-discrete}
 use native.Mathlib.Omega.{arith}
 use lib.Dec.{eqb, ltb}
 use lib.ListN.{length, getD, take, drop, replicate, length-drop, drop-of-length-le}
@@ -16,24 +16,23 @@ use Rattle.octets.proofs.Strings.{part-to}
 use Rattle.aes.specs.Aes.{isWidth}
 use Rattle.aes.proofs.Widths.{width}
 use Rattle.aes.specs.Cipher.{cipher}
-use Rattle.aes.specs.KeyExpansion.{roundKeys}
-use Rattle.cmac.specs.declared.Subkeys.{Subkeys}
-use Rattle.cmac.specs.Cmac.{zeros, chain, subkeys, zeroCipher}
-use Rattle.header.specs.Header.{total}
-use Rattle.s2v.specs.S2v.{tailLength, headerResult}
+use Rattle.cmac.specs.Cmac.{chain}
+use Rattle.s2v.specs.S2v.{tailLength}
 use Rattle.s2v.proofs.Laws.{Tail, tail, tail-short, tail-long}
 use Rattle.ctr.proofs.Laws.{length-xorStream}
 use Rattle.siv.specs.declared.Answer.{Answer}
 use Rattle.siv.specs.declared.Answer.the-variants.{Ok, Refused}
 use Rattle.siv.specs.declared.Refusal.the-variants.{Forged}
-use Rattle.siv.specs.Answer.{Outcome, Row, row, first, outcomeOf, withoutLength}
-use Rattle.siv.specs.Calls.{limit, headerRows}
-use Rattle.siv.specs.Siv.{macKey, ctrKey}
-use Rattle.siv.proofs.Laws.{not-due, first-none, first-not, first-pass, first-stop}
+use Rattle.siv.specs.Answer.{Outcome, Row, row, first, outcomeOf, success, withoutLength}
+use Rattle.siv.specs.Calls.{limit}
+use Rattle.siv.proofs.Laws.{lacks, not-due, first-not, first-pass, first-stop}
+use Rattle.head.specs.declared.Head.{Head}
+use Rattle.head.specs.declared.Made.{Made}
+use Rattle.head.specs.Head.{zeroHead, MakeResult, DidMake, settleHead}
 use Rattle.stream.specs.declared.Step.{Step}
 use Rattle.stream.specs.declared.Stream.{Stream}
-use Rattle.stream.specs.State.{allZero, writtenLimit, fits, passedBlocks, tailOf, added, ended, start, tagOfState}
-use Rattle.stream.specs.Steps.{StepResult, DidStep, settle, tagRows, openerRows, streamedAt, finishStep, addRows, turnRows, writeRows, feedRows, finishRows, finishTable}
+use Rattle.stream.specs.State.{allZero, writtenLimit, fits, passedBlocks, tailOf, added, ended, tagOfState}
+use Rattle.stream.specs.Steps.{StepResult, DidStep, refusedStep, settle, beginBy, tagRows, streamedAt, finishStep, addRows, turnRows, writeRows, feedRows, finishRows, finishTable}
 
 -- ---- parts of two joined strings
 
@@ -70,14 +69,6 @@ zero-stop s i h e = ap allZero (drop-cons s i 0 h) ∙ ap (λ (t : Bool). t && a
 pub zero-end : (s : List ℕ) (i : ℕ) → length s ≤ i → allZero (drop i s) ≡ true
 unfolding allZero
 zero-end s i h = ap allZero (drop-of-length-le s h)
-
--- a sum past a limit, told without the sum
-pub sum-passes : (most total n : ℕ) → total ≤ most → ltb (most - total) n ≡ ltb most (total + n)
-sum-passes most total n h = go (decLt (most - total) n)
-  where
-    go : Dec (most - total < n) → ltb (most - total) n ≡ ltb most (total + n)
-    go (yes k) = lt-ltb (most - total) n k ∙ sym (lt-ltb most (total + n) (omega arith))
-    go (no k) = le-ltb (most - total) n (omega arith) ∙ sym (le-ltb most (total + n) (omega arith))
 
 -- what a state that fits may be relied on for
 pub record Fit (wanted : ℕ) (s : Stream) : Type 0 where
@@ -225,32 +216,6 @@ absorbed s text {total} {n} {used} {c} {rest} t m u p q =
       q ∙ ap₂ (λ (h k : ℕ). tailOf (drop (16 * k) (take h (s .tail) ++ text))) u count,
     )
 
--- a state to begin with
-abbrev pub beginning : ℕ → List ℕ → List ℕ → List ℕ → List ℕ → ℕ → List ℕ → Stream
-beginning width macs ctrs l d stage v =
-    record {
-      stage = stage;
-      width = width;
-      «mac_keys» = macs;
-      «ctr_keys» = ctrs;
-      l = l;
-      d = d;
-      chain = zeros;
-      v = v;
-      total = 0;
-      written = 0;
-      tail = replicate 31 0;
-    }
-
--- the state that the code begins with
-pub started : (key : List ℕ) (ss : List (List ℕ)) (stage : ℕ) (v : List ℕ) {macs ctrs l d : List ℕ} {k : Subkeys} → macs ≡ roundKeys (macKey key) → ctrs ≡ roundKeys (ctrKey key)
-    → l ≡ zeroCipher (cipher (length key / 2) macs) → k ≡ subkeys l → d ≡ headerResult (cipher (length key / 2) macs) k ss → beginning (length key / 2) macs ctrs l d stage v ≡ start key ss stage v
-unfolding start
-started key ss stage v {macs} {ctrs} {l} {d} {k} m c e f g =
-    let E : List ℕ → List ℕ → List ℕ = cipher (length key / 2) in
-    let l′ : l ≡ zeroCipher (E (roundKeys (macKey key))) = e ∙ ap (λ (w : List ℕ). zeroCipher (E w)) m in
-    simp (m, c, l′, g ∙ ap₂ (λ (w : List ℕ) (j : Subkeys). headerResult (E w) j ss) m (f ∙ ap subkeys l′))
-
 -- ---- feed and finish
 
 pub length-streamedAt : (s : Stream) (place : ℕ) (text : List ℕ) → length (streamedAt s place text) ≡ length text
@@ -311,14 +276,59 @@ pub begin-refused : (a : Answer) (n : ℕ) (result : StepResult) {state : Stream
 begin-refused a n result {state} k e ends =
     subst (λ (s : Stream). DidStep (settle n result ended []) (record { answer = a; state = s }) []) (sym ends) (refused a n result ended [] k e)
 
--- what the refusals of the opener's begin leave
-pub opener-admits : (keyLength : ℕ) (lens : List ℕ) (headerLength tagLength : ℕ) → first (openerRows keyLength lens headerLength tagLength) ≡ 0
-    → (first (headerRows keyLength lens headerLength) ≡ 0) × (tagLength ≡ 16)
-opener-admits keyLength lens headerLength tagLength e =
-    let none = first-none (headerRows keyLength lens headerLength) (tagRows tagLength) refl e in
-    let f = not-due (not (eqb tagLength 16)) 4 0 (none .1) in
-    (none .0, eqb-true tagLength 16 (not-false (eqb tagLength 16) (f .0)))
+-- a begin with what making a head gave is the begin with the head and its rows' number
+begun-made : (n : ℕ) (h : Head) (made : Made) (stage : ℕ) (v : List ℕ) → DidMake (settleHead n h) made
+    → beginBy (outcomeOf (made .answer) .number) (made .head) stage v ≡ beginBy n h stage v
+begun-made n h made stage v d = go (eqb n 0) refl (d .outcome) (d .head)
+  where
+    given : Bool → MakeResult
+    given t = cond t (record { outcome = success 0; head = h }) (record { outcome = withoutLength n; head = zeroHead })
 
--- a tag of 16 bytes is its own first 16
-pub whole-tag : (tag : List ℕ) → length tag ≡ 16 → part tag 0 16 ≡ tag
-whole-tag tag e = take-all 16 tag (omega arith)
+    go : (t : Bool) → eqb n 0 ≡ t → outcomeOf (made .answer) ≡ given t .outcome → made .head ≡ given t .head
+        → beginBy (outcomeOf (made .answer) .number) (made .head) stage v ≡ beginBy n h stage v
+    go true e o p = ap₂ (λ (m : ℕ) (g : Head). beginBy m g stage v) (ap (λ (x : Outcome). x .number) o ∙ sym (eqb-true n 0 e)) p
+    go false e o p = ap₂ (λ (m : ℕ) (g : Head). beginBy m g stage v) (ap (λ (x : Outcome). x .number) o) p ∙ simp e
+
+pub begins : (n : ℕ) (h : Head) (made : Made) (stage : ℕ) (v : List ℕ) {step : Step} → DidMake (settleHead n h) made
+    → DidStep (beginBy (outcomeOf (made .answer) .number) (made .head) stage v) step [] → DidStep (beginBy n h stage v) step []
+begins n h made stage v {step} m d = subst (λ (r : StepResult). DidStep r step []) (begun-made n h made stage v m) d
+
+-- ---- an opener's begin, whose tag is judged last
+
+module _ (rows : List Row) (present : lacks 0 rows ≡ true) (h : Head) (tag : List ℕ) where
+  -- a tag of 16 bytes leaves the number to the rows before it
+  tagged : length tag ≡ 16 → first (rows ++ tagRows (length tag)) ≡ first rows
+  tagged e = go (ℕ-discrete (first rows) 0)
+    where
+      go : Dec (first rows ≡ 0) → first (rows ++ tagRows (length tag)) ≡ first rows
+      go (yes z) = first-pass rows (tagRows (length tag)) present z ∙ ap (λ (t : Bool). cond (not t) 5 0) (eq-eqb (length tag) 16 e) ∙ sym z
+      go (no z) = first-stop rows (tagRows (length tag)) z
+
+  pub begins-tagged : (made : Made) (v : List ℕ) {step : Step} → length tag ≡ 16 → v ≡ part tag 0 16 → DidMake (settleHead (first rows) h) made
+      → DidStep (beginBy (outcomeOf (made .answer) .number) (made .head) 3 v) step [] → DidStep (beginBy (first (rows ++ tagRows (length tag))) h 3 tag) step []
+  begins-tagged made v {step} e p m d =
+      subst (λ (r : StepResult). DidStep r step []) (ap₂ (λ (n : ℕ) (w : List ℕ). beginBy n h 3 w) (sym (tagged e)) (p ∙ take-all 16 tag (omega arith)))
+      (begins (first rows) h made 3 v m d)
+
+  -- any other is refused, with 5 where no row before it is due
+  pub begins-untagged : (before : Answer) {step : Step} → (length tag ≡ 16 → ⊥) → outcomeOf before ≡ withoutLength (first rows)
+      → DidStep (refusedStep (cond (eqb (outcomeOf before .number) 0) 5 (outcomeOf before .number)) ended []) step []
+      → DidStep (beginBy (first (rows ++ tagRows (length tag))) h 3 tag) step []
+  begins-untagged before {step} e o d = go (ℕ-discrete (first rows) 0)
+    where
+      number : outcomeOf before .number ≡ first rows
+      number = ap (λ (x : Outcome). x .number) o
+
+      -- the number that is given, and the rows'
+      by : (n : ℕ) → (n ≡ 0 → ⊥) → cond (eqb (first rows) 0) 5 (first rows) ≡ n → first (rows ++ tagRows (length tag)) ≡ n
+          → DidStep (beginBy (first (rows ++ tagRows (length tag))) h 3 tag) step []
+      by n z p q =
+          picked-else (eqb (first (rows ++ tagRows (length tag))) 0) _ _ (ap (λ (m : ℕ). eqb m 0) q ∙ ne-eqb n 0 z)
+          (subst (λ (m : ℕ). DidStep (refusedStep m ended []) step []) (ap (λ (m : ℕ). cond (eqb m 0) 5 m) number ∙ p ∙ sym q) d)
+
+      go : Dec (first rows ≡ 0) → DidStep (beginBy (first (rows ++ tagRows (length tag))) h 3 tag) step []
+      go (yes z) =
+          by 5 (λ w. omega (arith, w)) (ap (λ (t : Bool). cond t 5 (first rows)) (eq-eqb (first rows) 0 z))
+          (first-pass rows (tagRows (length tag)) present z ∙ ap (λ (t : Bool). cond (not t) 5 0) (ne-eqb (length tag) 16 e))
+      go (no z) =
+          by (first rows) z (ap (λ (t : Bool). cond t 5 (first rows)) (ne-eqb (first rows) 0 z)) (first-stop rows (tagRows (length tag)) z)

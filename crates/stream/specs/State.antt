@@ -8,11 +8,10 @@ use lib.ListN.{length, take, drop, replicate}
 use Rattle.octets.specs.Octets.{put}
 use Rattle.aes.specs.Aes.{isWidth}
 use Rattle.aes.specs.Cipher.{cipher}
-use Rattle.aes.specs.KeyExpansion.{roundKeys}
-use Rattle.cmac.specs.Cmac.{zeros, chain, subkeys, zeroCipher}
-use Rattle.s2v.specs.S2v.{tailLength, headerResult, tagFrom}
+use Rattle.cmac.specs.Cmac.{zeros, chain, subkeys}
+use Rattle.s2v.specs.S2v.{tailLength, tagFrom}
 use Rattle.siv.specs.Calls.{limit}
-use Rattle.siv.specs.Siv.{macKey, ctrKey}
+use Rattle.head.specs.declared.Head.{Head}
 use Rattle.stream.specs.declared.Stream.{Stream}
 
 -- the ended state: all fields zero
@@ -32,18 +31,16 @@ ended =
       tail = replicate 31 0;
     }
 
--- the state that a key and a header list begin with, in a stage and with a tag
-unfoldable pub start : List ℕ → List (List ℕ) → ℕ → List ℕ → Stream
-start key ss stage v =
-    let width = length key / 2 in
-    let E = cipher width (roundKeys (macKey key)) in
+-- the state that a head starts, in a stage and with a tag: every state that isn't ended comes from one
+abbrev pub start : Head → ℕ → List ℕ → Stream
+start h stage v =
     record {
       stage = stage;
-      width = width;
-      «mac_keys» = roundKeys (macKey key);
-      «ctr_keys» = roundKeys (ctrKey key);
-      l = zeroCipher E;
-      d = headerResult E (subkeys (zeroCipher E)) ss;
+      width = h .width;
+      «mac_keys» = h .«mac_keys»;
+      «ctr_keys» = h .«ctr_keys»;
+      l = h .l;
+      d = h .d;
       chain = zeros;
       v = v;
       total = 0;

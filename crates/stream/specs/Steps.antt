@@ -13,6 +13,8 @@ use Rattle.header.specs.Header.{strings}
 use Rattle.ctr.specs.Counter.{xorStream}
 use Rattle.siv.specs.Answer.{Outcome, success, withoutLength, outcomeOf, Row, row, first}
 use Rattle.siv.specs.Calls.{limit, headerRows}
+use Rattle.head.specs.declared.Head.{Head}
+use Rattle.head.specs.Head.{headOf, extended, restRows}
 use Rattle.stream.specs.declared.Step.{Step}
 use Rattle.stream.specs.declared.Stream.{Stream}
 use Rattle.stream.specs.State.{ended, start, fits, added, tagOfState}
@@ -41,23 +43,31 @@ settle n done s output = cond (eqb n 0) done (refusedStep n s output)
 
 -- ---- begin
 
--- the sealer's: a refusal returns the ended state
-unfoldable pub beginSealer : List ℕ → List ℕ → List ℕ → StepResult
-beginSealer key bytes lens =
-    settle (first (headerRows (length key) lens (length bytes))) (doneStep 0 (start key (strings bytes lens) 1 zeros) []) ended []
+-- a begin whose rows give a number: the state that a head starts, or the refusal with the ended state
+abbrev pub beginBy : ℕ → Head → ℕ → List ℕ → StepResult
+beginBy n h stage v = settle n (doneStep 0 (start h stage v) []) ended []
 
 -- a tag has 16 bytes
 abbrev pub tagRows : ℕ → List Row
 tagRows tagLength = row 5 (not (eqb tagLength 16)) ∷ []
 
--- the opener's refusals
-abbrev pub openerRows : ℕ → List ℕ → ℕ → ℕ → List Row
-openerRows keyLength lens headerLength tagLength = headerRows keyLength lens headerLength ++ tagRows tagLength
+-- the sealer's, from the head of a key and a header list
+unfoldable pub beginSealer : List ℕ → List ℕ → List ℕ → StepResult
+beginSealer key bytes lens = beginBy (first (headerRows (length key) lens (length bytes))) (headOf key (strings bytes lens)) 1 zeros
 
 -- the opener's, with a tag
 unfoldable pub beginOpener : List ℕ → List ℕ → List ℕ → List ℕ → StepResult
 beginOpener key bytes lens tag =
-    settle (first (openerRows (length key) lens (length bytes) (length tag))) (doneStep 0 (start key (strings bytes lens) 3 tag) []) ended []
+    beginBy (first (headerRows (length key) lens (length bytes) ++ tagRows (length tag))) (headOf key (strings bytes lens)) 3 tag
+
+-- the sealer's, from a head and the strings that follow its own
+unfoldable pub beginSealerFrom : Head → List ℕ → List ℕ → StepResult
+beginSealerFrom h bytes lens = beginBy (first (restRows h lens (length bytes))) (extended h (strings bytes lens)) 1 zeros
+
+-- the opener's, with a tag
+unfoldable pub beginOpenerFrom : Head → List ℕ → List ℕ → List ℕ → StepResult
+beginOpenerFrom h bytes lens tag =
+    beginBy (first (restRows h lens (length bytes) ++ tagRows (length tag))) (extended h (strings bytes lens)) 3 tag
 
 -- ---- the sealer's calls
 

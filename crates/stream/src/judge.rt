@@ -6,7 +6,7 @@ ghost use lib.Dec.{ltb};
 ghost use lib.ListN.{drop};
 ghost use Rattle.siv.specs.Answer.{outcomeOf, first, withoutLength};
 ghost use Rattle.stream.specs.State.{allZero, writtenLimit, fits};
-ghost use Rattle.stream.specs.Steps.{openerRows, addRows, turnRows, writeRows, feedRows, finishRows};
+ghost use Rattle.stream.specs.Steps.{addRows, turnRows, writeRows, feedRows, finishRows};
 use crate::Stream;
 use siv::Answer;
 use siv::Refusal;
@@ -61,25 +61,6 @@ fn passes(most: usize, total: usize, n: usize) -> bool
     ensures { λ r. ⌜ r ≡ ltb most (total + n) ⌝ }
 {
     most - total < n
-}
-
-// The refusals of the opener's begin.
-pub(crate) fn judge_opener(
-    key_len: usize,
-    lens: &[u32],
-    header_len: usize,
-    tag_len: usize,
-) -> Answer
-    ensures { λ r. ⌜ outcomeOf r ≡ withoutLength (first (openerRows «key_len» (now (lens .entry)) «header_len» «tag_len»)) ⌝ }
-{
-    let answer = siv::judge::judge_header(key_len, lens, header_len);
-    if let Answer::Refused(_) = answer {
-        return answer;
-    }
-    if tag_len == Stream::TAG_LEN {
-        return Answer::Ok(0);
-    }
-    Answer::Refused(Refusal::SealedLength)
 }
 
 // The refusals of add.

@@ -4,8 +4,9 @@ mod tail;
 mod work;
 
 ghost use mathlib.Core.List.{[]};
-ghost use Rattle.stream.specs.Steps.{DidStep, beginSealer, beginOpener, addStep, turnStep, writeStep, closeStep, feedStep, finishStep};
+ghost use Rattle.stream.specs.Steps.{DidStep, beginSealer, beginOpener, beginSealerFrom, beginOpenerFrom, addStep, turnStep, writeStep, closeStep, feedStep, finishStep};
 use aes::RoundKeys;
+use head::Head;
 use octets::Block;
 use siv::Answer;
 use siv::Refusal;
@@ -55,34 +56,34 @@ impl Stream {
     pub fn begin_sealer(key: &[u8], header: &[u8], lens: &[u32]) -> Step
         ensures { λ r. ⌜ DidStep (beginSealer (now (key .entry)) (now (header .entry)) (now (lens .entry))) r [] ⌝ }
     {
-        let answer = siv::judge::judge_header(key.len(), lens, header.len());
-        if let Answer::Refused(_) = answer {
-            return Step {
-                answer,
-                state: work::ended(),
-            };
-        }
-        Step {
-            answer: Answer::Ok(0),
-            state: work::start(key, header, lens, 1, [0u8; 16]),
-        }
+        work::begun(Head::make(key, header, lens), 1, [0u8; 16])
     }
 
     // An opener's state from a key, a header list and a tag.
     pub fn begin_opener(key: &[u8], header: &[u8], lens: &[u32], tag: &[u8]) -> Step
         ensures { λ r. ⌜ DidStep (beginOpener (now (key .entry)) (now (header .entry)) (now (lens .entry)) (now (tag .entry))) r [] ⌝ }
     {
-        let answer = judge::judge_opener(key.len(), lens, header.len(), tag.len());
-        if let Answer::Refused(_) = answer {
-            return Step {
-                answer,
-                state: work::ended(),
-            };
+        if tag.len() != Self::TAG_LEN {
+            return work::untagged(siv::judge::judge_header(key.len(), lens, header.len()));
         }
-        Step {
-            answer: Answer::Ok(0),
-            state: work::start(key, header, lens, 3, octets::load(tag, 0)),
+        work::begun(Head::make(key, header, lens), 3, octets::load(tag, 0))
+    }
+
+    // A sealer's state from a head and the strings of the header list that follow its own.
+    pub fn begin_sealer_from(head: Head, header: &[u8], lens: &[u32]) -> Step
+        ensures { λ r. ⌜ DidStep (beginSealerFrom head (now (header .entry)) (now (lens .entry))) r [] ⌝ }
+    {
+        work::begun(head.extend(header, lens), 1, [0u8; 16])
+    }
+
+    // An opener's state from a head, the strings that follow its own, and a tag.
+    pub fn begin_opener_from(head: Head, header: &[u8], lens: &[u32], tag: &[u8]) -> Step
+        ensures { λ r. ⌜ DidStep (beginOpenerFrom head (now (header .entry)) (now (lens .entry)) (now (tag .entry))) r [] ⌝ }
+    {
+        if tag.len() != Self::TAG_LEN {
+            return work::untagged(head::judge::judge_rest(head, lens, header.len()));
         }
+        work::begun(head.extend(header, lens), 3, octets::load(tag, 0))
     }
 
     // Adds a piece of plaintext.

@@ -1,4 +1,4 @@
--- `stream::work::start` meets its contract.
+-- `head::work::head_of` meets its contract.
 -- Assumes nothing.
 use mathlib.Core.Path.{_≡_, ap, _∙_}
 use mathlib.Core.List.{List}
@@ -10,9 +10,9 @@ use Rattle.octets.proofs.Strings.{part-rest}
 use Rattle.aes.specs.Aes.{isWidth}
 use Rattle.aes.specs.KeyExpansion.{roundKeys}
 use Rattle.siv.proofs.Laws.{KeyHalves, halves}
-use Rattle.stream.proofs.Laws.{started}
-use Rattle.stream.proofs.work.start.Statement.{statement}
-use Rattle.stream.proofs.work.start.Tie as tie
+use Rattle.head.proofs.Laws.{prepared}
+use Rattle.head.proofs.work.head_of.Statement.{statement}
+use Rattle.head.proofs.work.head_of.Tie as tie
 
 engine-requires : tie.Need-engine-requires
 engine-requires c κs = search needs
@@ -62,11 +62,11 @@ returns : tie.Need-returns
 returns c =
     let key = c .before .before .before .before .before .before .before .before .before .before .before .before .before .before .before .before .before .args .key .now in
     let front : length key / 2 - 0 ≡ length key / 2 = omega arith in
-    started key _ _ _ (c .before .before .before .before .before .before .before .before .before .before .round-keys .ensures ∙ ap (λ (n : ℕ). roundKeys (take n key)) front) (c .before .before .before .before .before .before .before .round-keys2 .ensures ∙ ap roundKeys (part-rest key (length key / 2)))
+    prepared _ _ key (c .before .before .before .before .before .before .before .before .before .before .round-keys .ensures ∙ ap (λ (n : ℕ). roundKeys (take n key)) front) (c .before .before .before .before .before .before .before .round-keys2 .ensures ∙ ap roundKeys (part-rest key (length key / 2)))
     (c .before .before .before .before .zero-cipher .ensures) (c .before .make-subkeys .ensures) (c .make-header-result .ensures)
 
-pub start-spec : {M : Type 1} → statement M
-start-spec =
+pub head-of-spec : {M : Type 1} → statement M
+head-of-spec =
     tie.close
     (tie.spec
     engine-requires

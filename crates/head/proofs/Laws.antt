@@ -1,0 +1,120 @@
+-- Laws of heads: the one that the code puts together, a head with the next strings, and what the refusals leave.
+-- Assumes nothing.
+use mathlib.Core.Path.{_≡_, ap, ap₂, sym, _∙_}
+use mathlib.Core.Bool.{true, not, and-eq-true-iff}
+use mathlib.Core.List.{List, [], _∷_, _++_}
+use Prim.Native.Nat.{ℕ, _+_, _/_, _≤_}
+use native.Mathlib.Omega.{arith}
+use lib.Dec.{eqb, ltb}
+use lib.ListN.{length, length-append}
+use borrow.Author.Tests.{eqb-true, eq-eqb, ne-eqb, ltb-false, not-true, not-false}
+use Rattle.aes.specs.Aes.{isWidth}
+use Rattle.aes.proofs.Widths.{width}
+use Rattle.aes.specs.Cipher.{cipher}
+use Rattle.aes.specs.KeyExpansion.{roundKeys}
+use Rattle.cmac.specs.declared.Subkeys.{Subkeys}
+use Rattle.cmac.specs.Cmac.{zeros, subkeys, zeroCipher, cmac}
+use Rattle.header.specs.Header.{total, strings}
+use Rattle.header.proofs.Laws.{length-strings}
+use Rattle.s2v.specs.S2v.{absorbStrings, headerResult}
+use Rattle.s2v.proofs.Laws.{absorb-append}
+use Rattle.siv.specs.declared.Answer.{Answer}
+use Rattle.siv.specs.declared.Answer.the-variants.{Ok}
+use Rattle.siv.specs.Answer.{Outcome, first, outcomeOf, withoutLength}
+use Rattle.siv.specs.Siv.{macKey, ctrKey}
+use Rattle.siv.proofs.Laws.{not-due}
+use Rattle.head.specs.declared.Head.{Head}
+use Rattle.head.specs.Head.{zeroHead, headOf, extended, fitsHead, restRows, DidMake, settleHead}
+
+-- ---- the heads that the code puts together
+
+abbrev pub headWith : ℕ → List ℕ → List ℕ → List ℕ → List ℕ → ℕ → Head
+headWith width macs ctrs l d count =
+    record {
+      width = width;
+      «mac_keys» = macs;
+      «ctr_keys» = ctrs;
+      l = l;
+      d = d;
+      count = count;
+    }
+
+module _ (bytes lens : List ℕ) where
+  pub prepared : (key : List ℕ) {macs ctrs l d : List ℕ} {k : Subkeys} → macs ≡ roundKeys (macKey key) → ctrs ≡ roundKeys (ctrKey key)
+      → l ≡ zeroCipher (cipher (length key / 2) macs) → k ≡ subkeys l → d ≡ headerResult (cipher (length key / 2) macs) k (strings bytes lens)
+      → headWith (length key / 2) macs ctrs l d (length lens) ≡ headOf key (strings bytes lens)
+  unfolding headOf
+  prepared key {macs} {ctrs} {l} {d} {k} m c e f g =
+      let E : List ℕ → List ℕ → List ℕ = cipher (length key / 2) in
+      let l′ : l ≡ zeroCipher (E (roundKeys (macKey key))) = e ∙ ap (λ (w : List ℕ). zeroCipher (E w)) m in
+      let d′ : d ≡ headerResult (E (roundKeys (macKey key))) (subkeys (zeroCipher (E (roundKeys (macKey key))))) (strings bytes lens) =
+      g ∙ ap₂ (λ (w : List ℕ) (j : Subkeys). headerResult (E w) j (strings bytes lens)) m (f ∙ ap subkeys l′) in
+      simp (m, c, l′, d′, length-strings bytes lens)
+
+  module _ (h : Head) where
+    pub goes-on : {d : List ℕ} {k : Subkeys} → k ≡ subkeys (h .l) → d ≡ absorbStrings (cipher (h .width) (h .«mac_keys»)) k (h .d) (strings bytes lens)
+        → headWith (h .width) (h .«mac_keys») (h .«ctr_keys») (h .l) d (h .count + length lens) ≡ extended h (strings bytes lens)
+    unfolding extended
+    goes-on {d} {k} f g =
+        ap₂ (λ (x : List ℕ) (n : ℕ). headWith (h .width) (h .«mac_keys») (h .«ctr_keys») (h .l) x (h .count + n))
+        (g ∙ ap (λ (j : Subkeys). absorbStrings (cipher (h .width) (h .«mac_keys»)) j (h .d) (strings bytes lens)) f)
+        (sym (length-strings bytes lens))
+
+-- no strings more
+pub stays : (bytes lens : List ℕ) (h : Head) → length lens ≡ 0 → h ≡ extended h (strings bytes lens)
+unfolding extended strings absorbStrings
+stays bytes [] h e = ap (headWith (h .width) (h .«mac_keys») (h .«ctr_keys») (h .l) (h .d)) (omega arith)
+stays bytes (n ∷ lens) h e = absurd (omega arith)
+
+-- ---- a head with the next strings is the head of all of them
+
+pub extended-head : (key : List ℕ) (a b : List (List ℕ)) → extended (headOf key a) b ≡ headOf key (a ++ b)
+unfolding extended headOf headerResult
+extended-head key a b =
+    let E : List ℕ → List ℕ = cipher (length key / 2) (roundKeys (macKey key)) in
+    let k : Subkeys = subkeys (zeroCipher E) in
+    ap₂ (headWith (length key / 2) (roundKeys (macKey key)) (roundKeys (ctrKey key)) (zeroCipher E))
+    (sym (absorb-append E k (cmac E k zeros) a b))
+    (sym (length-append a b))
+
+-- ---- what the refusals leave
+
+-- what a head that fits may be relied on for
+pub record Fit (h : Head) : Type 0 where
+  pub width : h .width ≤ 32
+  pub few : h .count ≤ 126
+
+pub fit : (h : Head) → fitsHead h ≡ true → Fit h
+unfolding fitsHead
+fit h e =
+    let a = and-eq-true-iff (isWidth (h .width)) (not (ltb 126 (h .count))) .0 e in
+    record { width = width (h .width) (a .0) .high; few = ltb-false 126 (h .count) (not-true (ltb 126 (h .count)) (a .1)) }
+
+pub record RestAdmits (h : Head) (lens : List ℕ) (headerLength : ℕ) : Type 0 where
+  pub width : h .width ≤ 32
+  pub few : h .count + length lens ≤ 126
+  pub listed : total lens ≡ headerLength
+
+pub rest-admits : (h : Head) (lens : List ℕ) (headerLength : ℕ) → first (restRows h lens headerLength) ≡ 0 → RestAdmits h lens headerLength
+rest-admits h lens headerLength e =
+    let a = not-due (not (fitsHead h)) 8 _ e in
+    let b = not-due (ltb 126 (h .count + length lens)) 1 _ (a .1) in
+    let c = not-due (not (eqb (total lens) headerLength)) 2 0 (b .1) in
+    record {
+      width = fit h (not-false (fitsHead h) (a .0)) .width;
+      few = ltb-false 126 (h .count + length lens) (b .0);
+      listed = eqb-true (total lens) headerLength (not-false (eqb (total lens) headerLength) (c .0));
+    }
+
+-- ---- the calls' results
+
+module _ (n : ℕ) (h : Head) where
+  pub make-refused : (a : Answer) {z : Head} → (outcomeOf a .number ≡ 0 → ⊥) → outcomeOf a ≡ withoutLength n → z ≡ zeroHead → DidMake (settleHead n h) (record { answer = a; head = z })
+  make-refused a k e z =
+      let off = ne-eqb n 0 (λ p. k (ap (λ (o : Outcome). o .number) e ∙ p)) in
+      record { outcome = simp off e; head = simp off z }
+
+  pub make-done : {g : Head} → n ≡ 0 → g ≡ h → DidMake (settleHead n h) (record { answer = Ok 0; head = g })
+  make-done e g =
+      let on = eq-eqb n 0 e in
+      record { outcome = simp on; head = simp on g }

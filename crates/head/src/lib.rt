@@ -1,0 +1,66 @@
+// A prepared head: a key and the first strings of a header list, worked through once; any number of stream states begin from it.
+pub mod judge;
+mod work;
+
+ghost use Rattle.head.specs.Head.{DidMake, makeHead, extendHead};
+use aes::RoundKeys;
+use octets::Block;
+use siv::Answer;
+
+// A head. Only `make` and `extend` give one that means anything; of any other, width and count are judged and the rest is used as it is.
+pub struct Head {
+    // The length of one half of the key.
+    pub width: usize,
+    // The round keys of the key's first half, which serves S2V.
+    pub mac_keys: RoundKeys,
+    // The round keys of its second half, which serves the counter.
+    pub ctr_keys: RoundKeys,
+    // L, the cipher of the zero block.
+    pub l: Block,
+    // D over the head's strings.
+    pub d: Block,
+    // How many strings these are.
+    pub count: usize,
+}
+
+// What making a head hands back.
+pub struct Made {
+    pub answer: Answer,
+    pub head: Head,
+}
+
+impl Head {
+    // A head from a key and the first strings of a header list. A refusal comes with a head that is all zero.
+    pub fn make(key: &[u8], header: &[u8], lens: &[u32]) -> Made
+        ensures { λ r. ⌜ DidMake (makeHead (now (key .entry)) (now (header .entry)) (now (lens .entry))) r ⌝ }
+    {
+        let answer = siv::judge::judge_header(key.len(), lens, header.len());
+        if let Answer::Refused(_) = answer {
+            return Made {
+                answer,
+                head: work::zero_head(),
+            };
+        }
+        Made {
+            answer: Answer::Ok(0),
+            head: work::head_of(key, header, lens),
+        }
+    }
+
+    // The head with the next strings of its header list.
+    pub fn extend(self, header: &[u8], lens: &[u32]) -> Made
+        ensures { λ r. ⌜ DidMake (extendHead self (now (header .entry)) (now (lens .entry))) r ⌝ }
+    {
+        let answer = judge::judge_rest(self, lens, header.len());
+        if let Answer::Refused(_) = answer {
+            return Made {
+                answer,
+                head: work::zero_head(),
+            };
+        }
+        Made {
+            answer: Answer::Ok(0),
+            head: work::extended(self, header, lens),
+        }
+    }
+}

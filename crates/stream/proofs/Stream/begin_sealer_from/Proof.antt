@@ -1,0 +1,26 @@
+-- `stream::Stream::begin_sealer_from` meets its contract.
+-- Assumes nothing.
+use lib.ListN.{length}
+use borrow.Author.Needs.{needs}
+use Rattle.header.specs.Header.{strings}
+use Rattle.siv.specs.Answer.{first}
+use Rattle.head.specs.Head.{restRows, extended, extendHead}
+use Rattle.stream.specs.Steps.{beginSealerFrom}
+use Rattle.stream.proofs.Laws.{begins}
+use Rattle.stream.proofs.Stream.begin_sealer_from.Statement.{statement}
+use Rattle.stream.proofs.Stream.begin_sealer_from.Tie as tie
+
+extend-requires : tie.Need-extend-requires
+extend-requires c κs = search needs
+
+begun-requires : tie.Need-begun-requires
+begun-requires c κs = search needs
+
+returns : tie.Need-returns
+unfolding beginSealerFrom extendHead
+returns c =
+    let args = c .before .before .before .before .args in
+    begins (first (restRows (args .head) (args .lens .now) (length (args .header .now)))) (extended (args .head) (strings (args .header .now) (args .lens .now))) (c .before .extend .result) _ _ (c .before .extend .ensures) (c .begun .ensures)
+
+pub begin-sealer-from-spec : {M : Type 1} → statement M
+begin-sealer-from-spec = tie.close (tie.spec extend-requires begun-requires returns)
