@@ -1,7 +1,7 @@
 -- The first demand holds.
 -- Assumes nothing.
 use mathlib.Core.Path.{_≡_, refl, ap, ap₂, sym, subst, _∙_}
-use mathlib.Core.Bool.{Bool, true, false, not, cond, _&&_}
+use mathlib.Core.Bool.{Bool, true, false, not, false≢true, cond, _&&_}
 use mathlib.Core.List.{List, [], _∷_, _++_}
 use Prim.Native.Nat.{ℕ, pred, _<_}
 use native.Mathlib.Decide.{ℕ-discrete}
@@ -15,17 +15,19 @@ use Rattle.siv.specs.declared.Answer.{Answer}
 use Rattle.siv.specs.declared.Answer.the-variants.{Ok, Refused}
 use Rattle.siv.specs.declared.Refusal.{Refusal}
 use Rattle.siv.specs.declared.Refusal.the-variants.{KeyLength, HeaderCount, HeaderLengths, TooLong, SealedLength, OutputShort, ScratchShort, Forged, State, EmptyNonce, RingLength}
-use Rattle.siv.specs.Answer.{Outcome, Row, row, first, withoutLength, numberOf, outcomeOf}
+use Rattle.siv.specs.Answer.{Outcome, Row, row, first, success, withoutLength, numberOf, outcomeOf}
 use Rattle.siv.specs.Calls.{CallResult, isKeyLength, openRows, sealTable, sealNumber, sealCall, openTable, openNumber, openCall}
 use Rattle.siv.specs.Ring.{slotCount, slotKey, ringRows, RingResult, openSlot}
 use Rattle.siv.specs.Siv.{genuine}
 use Rattle.siv.proofs.Laws.{lacks, first-not, first-pass, first-stop, first-none, refusal-number, none-where, seal-count, open-count}
 use Rattle.siv.proofs.Ring.{RingWhole, ring-admits, slot-keyed, Chosen, chosen-within, chosen-closed, chosen-same, opensAt, Comes, goes, stops, ring-comes}
+use Rattle.head.specs.declared.Head.{Head}
+use Rattle.head.specs.Head.{zeroHead, MakeResult, settleHead, makeHead, extendHead}
 use Rattle.stream.specs.declared.Stream.{Stream}
 use Rattle.stream.specs.State.{ended}
-use Rattle.stream.specs.Steps.{StepResult, doneStep, refusedStep, settle, beginSealer, beginOpener, addStep, turnStep, writeStep, closeStep, feedStep, finishTable, finishStep}
+use Rattle.stream.specs.Steps.{StepResult, doneStep, refusedStep, settle, beginSealer, beginOpener, beginSealerFrom, beginOpenerFrom, addStep, turnStep, writeStep, closeStep, feedStep, finishTable, finishStep}
 use Rattle.kinphlor.specs.Interface.{aeadLens, emptyNonce, fromC}
-use Rattle.demands.specs.First.{order, keeps, FirstDue, none, here, later, FirstSeal, FirstOpen, rowsFromC, FirstFromC, noSlot, FirstRing, FirstStep, FirstFinish, First}
+use Rattle.demands.specs.First.{order, keeps, FirstDue, none, here, later, FirstSeal, FirstOpen, rowsFromC, FirstFromC, noSlot, FirstRing, FirstHead, FirstStep, FirstFinish, First}
 use Rattle.demands.proofs.Parts.{from-c-parts, ring-parts}
 use Rattle.demands.proofs.Slots.{chosen-noSlot, ring-comes-from-c}
 
@@ -187,6 +189,30 @@ module _ (keyLength : ℕ) (ring bytes lens input output scratch : List ℕ) whe
           slotless = λ m. chosen-closed _ count g (ne-eqb _ 0 m);
         }
 
+-- ---- a head
+
+by-head : (table : List Row) (h : Head) → keeps order table ≡ true → FirstHead table (settleHead (first table) h) h
+by-head table h k = go (eqb (first table) 0) refl
+  where
+    made : Bool → MakeResult
+    made t = cond t (record { outcome = success 0; head = h }) (record { outcome = withoutLength (first table); head = zeroHead })
+
+    go : (t : Bool) → eqb (first table) 0 ≡ t → FirstHead table (made t) h
+    go true e =
+        record {
+          ordered = k;
+          first = subst (FirstDue table) (eqb-true (first table) 0 e) (first-due table);
+          done = λ z. refl;
+          refused = λ n z m. absurd (m (sym z));
+        }
+    go false e =
+        record {
+          ordered = k;
+          first = first-due table;
+          done = λ z. absurd (false≢true (sym e ∙ eq-eqb (first table) 0 z));
+          refused = λ n z m. ap (λ (x : ℕ). record { outcome = withoutLength x; head = zeroHead }) z;
+        }
+
 -- ---- piecewise calls
 
 module _ (n : ℕ) (done : StepResult) (s : Stream) (output : List ℕ) (z : done .outcome .number ≡ 0) where
@@ -268,7 +294,7 @@ outcome-tells (Refused r) (Refused s) e =
     ap (λ (x : Refusal). Refused x) (sym (by-number r) ∙ ap (λ (o : Outcome). refusal (o .number)) e ∙ by-number s)
 
 pub answers-or-first-refusal : First
-unfolding beginSealer beginOpener addStep turnStep writeStep closeStep feedStep sealNumber sealCall openNumber openCall
+unfolding makeHead extendHead beginSealer beginOpener beginSealerFrom beginOpenerFrom addStep turnStep writeStep closeStep feedStep sealNumber sealCall openNumber openCall
 answers-or-first-refusal =
     record {
       sealing = sealing;
@@ -285,8 +311,12 @@ answers-or-first-refusal =
       openingRingParts = λ keyLength ring header input output scratch ad nonce.
           ring-parts keyLength ring header (aeadLens ad nonce) input output scratch (row 10 (eqb nonce 0) ∷ [])
           (ring-comes-from-c keyLength ring header input output scratch ad nonce);
+      makingHead = λ key bytes lens. by-head _ _ refl;
+      extendingHead = λ h bytes lens. by-head _ _ refl;
       beginningSealer = λ key bytes lens. by-table _ _ _ _ refl refl;
       beginningOpener = λ key bytes lens tag. by-table _ _ _ _ refl refl;
+      beginningSealerFrom = λ h bytes lens. by-table _ _ _ _ refl refl;
+      beginningOpenerFrom = λ h bytes lens tag. by-table _ _ _ _ refl refl;
       adding = λ s piece. by-table _ _ _ _ refl refl;
       turning = λ s output. by-table _ _ _ _ refl refl;
       writing = λ s piece output. by-table _ _ _ _ refl refl;

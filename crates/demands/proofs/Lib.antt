@@ -5,6 +5,7 @@ pub mod Slots
 pub mod Parts
 pub mod First
 pub mod Ring
+pub mod Head
 pub mod Pieces
 pub mod Steps
 pub mod Third

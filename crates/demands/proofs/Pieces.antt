@@ -24,6 +24,7 @@ use Rattle.ctr.proofs.Laws.{xorStream-append}
 use Rattle.siv.specs.Calls.{isKeyLength, limit}
 use Rattle.siv.specs.Siv.{macKey, ctrKey, tagOf, streamed}
 use Rattle.siv.proofs.Laws.{KeyHalves, halves, aes-cipher}
+use Rattle.head.specs.Head.{headOf}
 use Rattle.stream.specs.declared.Stream.{Stream}
 use Rattle.stream.specs.State.{start, allZero, writtenLimit, fits, usedTail, tailOf, passedBlocks, added, tagOfState}
 use Rattle.stream.specs.Steps.{streamedAt}
@@ -62,8 +63,8 @@ module _ (key : List ℕ) (ss : List (List ℕ)) where
         tail = tailOf (drop (16 * passedBlocks (length P)) P);
       }
 
-  pub begin-state : (stage : ℕ) (v : List ℕ) → start key ss stage v ≡ stateOf stage v 0 []
-  unfolding start chain passedBlocks tailLength put
+  pub begin-state : (stage : ℕ) (v : List ℕ) → start (headOf key ss) stage v ≡ stateOf stage v 0 []
+  unfolding headOf chain passedBlocks tailLength put
   begin-state stage v = refl
 
   module _ (stage : ℕ) (v : List ℕ) (written : ℕ) (A : List ℕ) where

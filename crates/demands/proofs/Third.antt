@@ -19,13 +19,15 @@ use Rattle.siv.specs.Answer.{Outcome, withoutLength}
 use Rattle.siv.specs.Calls.{limit, scratchNeed, openCall}
 use Rattle.siv.specs.Siv.{ctrKey, tagOf, streamed, sealed, opened, genuine}
 use Rattle.siv.proofs.Laws.{openJudged, length-streamed, length-opened}
+use Rattle.head.specs.Head.{headOf}
 use Rattle.stream.specs.declared.Stream.{Stream}
 use Rattle.stream.specs.State.{ended}
-use Rattle.stream.specs.Steps.{StepResult, doneStep, beginSealer, beginOpener}
+use Rattle.stream.specs.Steps.{StepResult, doneStep, beginBy, beginSealer, beginOpener}
 use Rattle.demands.specs.Model.{ModelState, After, fresh, wants, wholeAccepts, outputBefore, modelNumber, modelStep, modelRun}
-use Rattle.demands.specs.Run.{Begin, sealer, opener, Call, add, turn, write, close, feed, finish, begun, Entry, run}
+use Rattle.demands.specs.Run.{Begin, sealer, opener, Start, undivided, divided, Call, add, turn, write, close, feed, finish, begun, Entry, run}
 use Rattle.demands.specs.Third.{onePiece, gaveBy, gave, noFinish, AsModel, AsSealed, fed, AsOpened, ThirdDemand}
 use Rattle.demands.specs.Whole.{Admits}
+use Rattle.demands.proofs.Head.{admitted, divided-as-undivided}
 use Rattle.demands.proofs.Pieces.{stateOf, begin-state, streamed-append, streamed-rest}
 use Rattle.demands.proofs.Siv.{length-tag}
 use Rattle.demands.proofs.Steps.{modelOf, Known, adding, writing, closed, feeding, finished, Steps, step, known-shown, accepts-genuine, refusedAfter, doneAfter, model-wrong, unwanted}
@@ -45,26 +47,33 @@ module _ (key bytes lens : List ℕ) (a : Admits key bytes lens) where
 
   -- ---- begin
 
-  sealer-begins : beginSealer key bytes lens ≡ doneStep 0 (stateOf key (strings bytes lens) 1 zeros 0 []) []
-  unfolding beginSealer
-  sealer-begins =
-      simp (a .keyed, le-ltb 126 (length lens) (a .few), eq-eqb (total lens) (length bytes) (a .listed))
-      (ap (λ (s : Stream). doneStep 0 s []) (begin-state key (strings bytes lens) 1 zeros))
+  -- a begin from a head gives what the begin from the whole list gives
+  from : (start : Start) (begin : Begin) → begun key bytes lens start begin ≡ begun key bytes lens undivided begin
+  from undivided begin = refl
+  from (divided n) begin = divided-as-undivided key bytes lens a n .begins begin
 
-  opener-begins : (T : List ℕ) → length T ≡ 16 → beginOpener key bytes lens T ≡ doneStep 0 (stateOf key (strings bytes lens) 3 T 0 []) []
+  sealer-begins : (start : Start) → begun key bytes lens start sealer ≡ doneStep 0 (stateOf key (strings bytes lens) 1 zeros 0 []) []
+  unfolding beginSealer
+  sealer-begins start =
+      from start sealer
+      ∙ ap (λ (n : ℕ). beginBy n (headOf key (strings bytes lens)) 1 zeros) (admitted key bytes lens a)
+      ∙ ap (λ (s : Stream). doneStep 0 s []) (begin-state key (strings bytes lens) 1 zeros)
+
+  opener-begins : (start : Start) (T : List ℕ) → length T ≡ 16 → begun key bytes lens start (opener T) ≡ doneStep 0 (stateOf key (strings bytes lens) 3 T 0 []) []
   unfolding beginOpener
-  opener-begins T t =
-      simp (a .keyed, le-ltb 126 (length lens) (a .few), eq-eqb (total lens) (length bytes) (a .listed), eq-eqb (length T) 16 t)
+  opener-begins start T t =
+      from start (opener T)
+      ∙ simp (a .keyed, le-ltb 126 (length lens) (a .few), eq-eqb (total lens) (length bytes) (a .listed), eq-eqb (length T) 16 t)
       (ap (λ (s : Stream). doneStep 0 s []) (begin-state key (strings bytes lens) 3 T))
 
   module _ (shared : List ℕ) where
-    sealer-known : Known key bytes lens shared sealer (fresh sealer) (beginSealer key bytes lens .state) shared
-    sealer-known =
-        subst (λ (r : StepResult). Known key bytes lens shared sealer (fresh sealer) (r .state) shared) (sym sealer-begins) (adding [] (omega arith))
+    sealer-known : (start : Start) → Known key bytes lens shared sealer (fresh sealer) (begun key bytes lens start sealer .state) shared
+    sealer-known start =
+        subst (λ (r : StepResult). Known key bytes lens shared sealer (fresh sealer) (r .state) shared) (sym (sealer-begins start)) (adding [] (omega arith))
 
-    opener-known : (T : List ℕ) → length T ≡ 16 → Known key bytes lens shared (opener T) (fresh (opener T)) (beginOpener key bytes lens T .state) shared
-    opener-known T t =
-        subst (λ (r : StepResult). Known key bytes lens shared (opener T) (fresh (opener T)) (r .state) shared) (sym (opener-begins T t))
+    opener-known : (start : Start) (T : List ℕ) → length T ≡ 16 → Known key bytes lens shared (opener T) (fresh (opener T)) (begun key bytes lens start (opener T) .state) shared
+    opener-known start T t =
+        subst (λ (r : StepResult). Known key bytes lens shared (opener T) (fresh (opener T)) (r .state) shared) (sym (opener-begins start T t))
         (subst (Known key bytes lens shared (opener T) (fresh (opener T)) (stateOf key (strings bytes lens) 3 T 0 [])) (ap (put shared 0) (streamed-nil key T) ∙ put-nil shared)
         (subst (λ (P : List ℕ). Known key bytes lens shared (opener T) (fresh (opener T)) (stateOf key (strings bytes lens) 3 T 0 P) (put shared 0 (streamed key T []))) (streamed-nil key T)
         (feeding T [] t (omega arith) (omega arith))))
@@ -122,15 +131,15 @@ module _ (key bytes lens : List ℕ) (a : Admits key bytes lens) where
             ∙ ap (stateBy begin) (sym (one-model begin b s o k z))
             ∙ sym (known-state begin _ _ _ (runs begin (onePiece b) (fresh begin) s₀ shared k₀ .1))
 
-    as-model : (begin : Begin) (s : Stream) → begun begin key bytes lens ≡ doneStep 0 s [] → Known key bytes lens shared begin (fresh begin) (begun begin key bytes lens .state) shared → (calls : List Call)
-        → AsModel key bytes lens begin shared calls
-    as-model begin s e k calls =
-        let r = runs begin calls (fresh begin) (begun begin key bytes lens .state) shared k in
+    as-model : (start : Start) (begin : Begin) (s : Stream) → begun key bytes lens start begin ≡ doneStep 0 s []
+        → Known key bytes lens shared begin (fresh begin) (begun key bytes lens start begin .state) shared → (calls : List Call) → AsModel key bytes lens begin shared calls start
+    as-model start begin s e k calls =
+        let r = runs begin calls (fresh begin) (begun key bytes lens start begin .state) shared k in
         record {
           begins = ap (λ (r : StepResult). r .outcome) e;
           entries = r .0;
           output = known-shown key bytes lens shared a begin _ _ _ (r .1);
-          state = as-one-piece begin (begun begin key bytes lens .state) k _ _ _ (r .1);
+          state = as-one-piece begin (begun key bytes lens start begin .state) k _ _ _ (r .1);
         }
 
     -- ---- what turn and the writes gave
@@ -265,11 +274,11 @@ module _ (key bytes lens : List ℕ) (a : Admits key bytes lens) where
         ∙ sym (take-append-add v (streamed key v A) n)
         ∙ ap (λ (k : ℕ). take k (v ++ streamed key v A)) place
 
-    as-sealed : (calls : List Call) → AsSealed key bytes lens shared calls
-    as-sealed calls =
-        let r = runs sealer calls (fresh sealer) (beginSealer key bytes lens .state) shared sealer-known in
+    as-sealed : (start : Start) (calls : List Call) → AsSealed key bytes lens shared calls start
+    as-sealed start calls =
+        let r = runs sealer calls (fresh sealer) (begun key bytes lens start sealer .state) shared (sealer-known start) in
         let b : ModelState = modelRun key bytes lens sealer shared (fresh sealer) calls .model in
-        let joined = ap (gave calls) (r .0) ∙ gave-run calls (fresh sealer) (beginSealer key bytes lens .state) shared sealer-known in
+        let joined = ap (gave calls) (r .0) ∙ gave-run calls (fresh sealer) (begun key bytes lens start sealer .state) shared (sealer-known start) in
         record { joined = joined; firstBytes = λ e. joined ∙ go b e (eqb (b .stage) 1) }
       where
         go : (b : ModelState) → take (length (b .W)) (b .A) ≡ b .W → (t : Bool)
@@ -378,11 +387,10 @@ module _ (key bytes lens : List ℕ) (a : Admits key bytes lens) where
                 ∙ ap₂ entry (sym (wipes .0))
                 (sym (ap (take n) (wipes .1 ∙ ap (λ (k : ℕ). put output 0 (replicate k 0)) zeroed) ∙ read-front output (replicate n 0) n (length-replicate {A = ℕ} n 0) large))
 
-      as-opened : (calls : List Call) (output scratch : List ℕ) → noFinish calls ≡ true → length (fed key bytes lens T shared calls) ≤ length output
-          → scratchNeed (length (fed key bytes lens T shared calls)) ≤ length scratch → AsOpened key bytes lens T shared calls output scratch
-      as-opened calls output scratch none large scratchy =
-          let k = opener-known T tagged in
-          let r = runs (opener T) calls (fresh (opener T)) (beginOpener key bytes lens T .state) shared k in
+      as-opened : (start : Start) (calls : List Call) (output scratch : List ℕ) → noFinish calls ≡ true → length (fed key bytes lens T shared calls) ≤ length output
+          → scratchNeed (length (fed key bytes lens T shared calls)) ≤ length scratch → AsOpened key bytes lens T shared calls output scratch start
+      as-opened start calls output scratch none large scratchy =
+          let r = runs (opener T) calls (fresh (opener T)) (begun key bytes lens start (opener T) .state) shared (opener-known start T tagged) in
           let at = stays-run calls (fresh (opener T)) refl none in
           let lim = limits (opener T) _ _ _ (r .1) at in
           let whole = step key bytes lens shared a (opener T) _ _ _ finish (r .1) .entry ∙ agrees (modelRun key bytes lens (opener T) shared (fresh (opener T)) calls .model) at (lim .0) (lim .1) output scratch large scratchy in
@@ -392,8 +400,9 @@ pub accepts-the-sealed-and-follows-the-model : ThirdDemand
 accepts-the-sealed-and-follows-the-model key bytes lens a =
     record {
       whole = λ y output scratch. accepts-the-sealed key bytes lens y output scratch a;
-      sealers = λ shared. as-model key bytes lens a shared sealer _ (sealer-begins key bytes lens a) (sealer-known key bytes lens a shared);
-      openers = λ T shared calls t. as-model key bytes lens a shared (opener T) _ (opener-begins key bytes lens a T t) (opener-known key bytes lens a shared T t) calls;
-      seals = as-sealed key bytes lens a;
-      opens = λ T shared calls output scratch t. as-opened key bytes lens a shared T t calls output scratch;
+      sealers = λ start shared. as-model key bytes lens a shared start sealer _ (sealer-begins key bytes lens a start) (sealer-known key bytes lens a shared start);
+      openers = λ start T shared calls t.
+          as-model key bytes lens a shared start (opener T) _ (opener-begins key bytes lens a start T t) (opener-known key bytes lens a shared start T t) calls;
+      seals = λ start shared. as-sealed key bytes lens a shared start;
+      opens = λ start T shared calls output scratch t. as-opened key bytes lens a shared T t start calls output scratch;
     }

@@ -10,13 +10,15 @@ use Rattle.octets.specs.Octets.{put}
 use Rattle.cmac.specs.Cmac.{zeros}
 use Rattle.header.specs.Header.{total, strings}
 use Rattle.siv.specs.declared.Answer.{Answer}
-use Rattle.siv.specs.Answer.{Row, row, outcomeOf}
+use Rattle.siv.specs.Answer.{success, withoutLength, Row, row, outcomeOf}
 use Rattle.siv.specs.Calls.{CallResult, scratchNeed, headerRows, openRows, sealTable, sealCall, openTable, openCall}
 use Rattle.siv.specs.Ring.{slotCount, slotKey, ringRows, RingResult, openRing}
 use Rattle.siv.specs.Siv.{sealed, opened, genuine}
+use Rattle.head.specs.declared.Head.{Head}
+use Rattle.head.specs.Head.{zeroHead, headOf, extended, restRows, MakeResult, makeHead, extendHead}
 use Rattle.stream.specs.declared.Stream.{Stream}
 use Rattle.stream.specs.State.{ended, start, added, tagOfState}
-use Rattle.stream.specs.Steps.{StepResult, doneStep, refusedStep, beginSealer, openerRows, beginOpener, addRows, addStep, turnRows, turned, turnStep, writeRows, wrote, streamedAt, writeStep, closeRows, closeStep, feedRows, feedStep, finishTable, finishStep}
+use Rattle.stream.specs.Steps.{StepResult, doneStep, refusedStep, tagRows, beginSealer, beginOpener, beginSealerFrom, beginOpenerFrom, addRows, addStep, turnRows, turned, turnStep, writeRows, wrote, streamedAt, writeStep, closeRows, closeStep, feedRows, feedStep, finishTable, finishStep}
 use Rattle.kinphlor.specs.Interface.{aeadLens, packed, sealFromC, openFromC, packedRing, openRingFromC}
 
 -- document 01's order of refusals, with document 02's 11 straight after 1
@@ -114,6 +116,15 @@ pub record Parts (given number slot count : ℕ) : Type 0 where
   pub middle : given / 268435456 % 16 ≡ slot
   pub low : given % 268435456 ≡ count
 
+-- ---- a head
+
+-- a call that makes a head, by its table: a refusal has a head that is all zero
+pub record FirstHead (table : List Row) (result : MakeResult) (complete : Head) : Type 0 where
+  pub ordered : keeps order table ≡ true
+  pub first : FirstDue table (result .outcome .number)
+  pub done : result .outcome .number ≡ 0 → result ≡ record { outcome = success 0; head = complete }
+  pub refused : (n : ℕ) → result .outcome .number ≡ n → (n ≡ 0 → ⊥) → result ≡ record { outcome = withoutLength n; head = zeroHead }
+
 -- ---- piecewise calls
 
 -- a call by its table: a refusal returns state and output as given
@@ -131,7 +142,7 @@ pub record FirstFinish (s : Stream) (output : List ℕ) : Type 0 where
   pub forged : finishStep s output .outcome .number ≡ 8 → finishStep s output ≡ refusedStep 8 ended (put output 0 (replicate (s .total) 0))
   pub refused : (n : ℕ) → finishStep s output .outcome .number ≡ n → (n ≡ 0 → ⊥) → (n ≡ 8 → ⊥) → finishStep s output ≡ refusedStep n s output
 
--- The first demand, on all input bytes, lengths and stream states; number and length tell an answer.
+-- The first demand, on all input bytes, lengths, heads and stream states; number and length tell an answer.
 pub record First : Type 0 where
   pub sealing : (key bytes lens input output scratch : List ℕ) → FirstSeal key bytes lens input output scratch
   pub opening : (key bytes lens input output scratch : List ℕ) → FirstOpen key bytes lens input output scratch
@@ -157,10 +168,18 @@ pub record First : Type 0 where
   pub openingRingParts : (keyLength : ℕ) (ring header input output scratch : List ℕ) (ad nonce : ℕ)
       → let r = openRingFromC keyLength ring header ad nonce input output scratch in
       Parts (packedRing (r .slot) (r .call .outcome)) (r .call .outcome .number) (r .slot) (r .call .outcome .count)
+  pub makingHead : (key bytes lens : List ℕ) → FirstHead (headerRows (length key) lens (length bytes)) (makeHead key bytes lens) (headOf key (strings bytes lens))
+  pub extendingHead : (h : Head) (bytes lens : List ℕ) → FirstHead (restRows h lens (length bytes)) (extendHead h bytes lens) (extended h (strings bytes lens))
   pub beginningSealer : (key bytes lens : List ℕ)
-      → FirstStep (headerRows (length key) lens (length bytes)) (beginSealer key bytes lens) (doneStep 0 (start key (strings bytes lens) 1 zeros) []) ended []
+      → FirstStep (headerRows (length key) lens (length bytes)) (beginSealer key bytes lens) (doneStep 0 (start (headOf key (strings bytes lens)) 1 zeros) []) ended []
   pub beginningOpener : (key bytes lens tag : List ℕ)
-      → FirstStep (openerRows (length key) lens (length bytes) (length tag)) (beginOpener key bytes lens tag) (doneStep 0 (start key (strings bytes lens) 3 tag) []) ended []
+      → FirstStep (headerRows (length key) lens (length bytes) ++ tagRows (length tag)) (beginOpener key bytes lens tag)
+      (doneStep 0 (start (headOf key (strings bytes lens)) 3 tag) []) ended []
+  pub beginningSealerFrom : (h : Head) (bytes lens : List ℕ)
+      → FirstStep (restRows h lens (length bytes)) (beginSealerFrom h bytes lens) (doneStep 0 (start (extended h (strings bytes lens)) 1 zeros) []) ended []
+  pub beginningOpenerFrom : (h : Head) (bytes lens tag : List ℕ)
+      → FirstStep (restRows h lens (length bytes) ++ tagRows (length tag)) (beginOpenerFrom h bytes lens tag)
+      (doneStep 0 (start (extended h (strings bytes lens)) 3 tag) []) ended []
   pub adding : (s : Stream) (piece : List ℕ) → FirstStep (addRows s (length piece)) (addStep s piece) (doneStep 0 (added s piece) []) s []
   pub turning : (s : Stream) (output : List ℕ)
       → FirstStep (turnRows s (length output)) (turnStep s output) (doneStep 16 (turned s (tagOfState s)) (put output 0 (tagOfState s))) s output

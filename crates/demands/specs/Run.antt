@@ -2,14 +2,22 @@
 -- Assumes nothing.
 use mathlib.Core.List.{List, [], _∷_}
 use Prim.Native.Nat.{ℕ}
+use lib.ListN.{take, drop}
+use Rattle.header.specs.Header.{total}
 use Rattle.siv.specs.Answer.{Outcome}
+use Rattle.head.specs.Head.{MakeResult, makeHead}
 use Rattle.stream.specs.declared.Stream.{Stream}
-use Rattle.stream.specs.Steps.{StepResult, beginSealer, beginOpener, addStep, turnStep, writeStep, closeStep, feedStep, finishStep}
+use Rattle.stream.specs.Steps.{StepResult, beginSealer, beginOpener, beginSealerFrom, beginOpenerFrom, addStep, turnStep, writeStep, closeStep, feedStep, finishStep}
 
 -- which begin a list of calls starts from; the opener's has a tag
 pub data Begin : Type 0 where
   sealer : Begin
   opener : List ℕ → Begin
+
+-- and from what: the key and the whole header list; or a head, made from the key and the list's first n strings, and the others
+pub data Start : Type 0 where
+  undivided : Start
+  divided : ℕ → Start
 
 -- a call with its arguments but for the state; turn and write bring the output that is lent to them, feed and finish share one
 pub data Call : Type 0 where
@@ -20,10 +28,22 @@ pub data Call : Type 0 where
   feed : List ℕ → Call
   finish : Call
 
--- what begin gave
-abbrev pub begun : Begin → List ℕ → List ℕ → List ℕ → StepResult
-begun sealer key bytes lens = beginSealer key bytes lens
-begun (opener T) key bytes lens = beginOpener key bytes lens T
+-- a key and a header list
+module _ (key bytes lens : List ℕ) where
+  -- what making a head from the first n strings gave
+  abbrev pub firstHead : ℕ → MakeResult
+  firstHead n = makeHead key (take (total (take n lens)) bytes) (take n lens)
+
+  -- the bytes of the others
+  abbrev pub restBytes : ℕ → List ℕ
+  restBytes n = drop (total (take n lens)) bytes
+
+  -- what begin gave
+  abbrev pub begun : Start → Begin → StepResult
+  begun undivided sealer = beginSealer key bytes lens
+  begun undivided (opener T) = beginOpener key bytes lens T
+  begun (divided n) sealer = beginSealerFrom (firstHead n .head) (restBytes n) (drop n lens)
+  begun (divided n) (opener T) = beginOpenerFrom (firstHead n .head) (restBytes n) (drop n lens) T
 
 -- what a call gives on a state, with the shared output
 abbrev pub call : Stream → List ℕ → Call → StepResult

@@ -12,9 +12,9 @@ use Rattle.siv.specs.Answer.{success}
 use Rattle.siv.specs.Calls.{scratchNeed, openCall}
 use Rattle.siv.specs.Siv.{streamed, sealed}
 use Rattle.stream.specs.State.{ended}
-use Rattle.stream.specs.Steps.{finishStep}
+use Rattle.stream.specs.Steps.{StepResult, finishStep}
 use Rattle.demands.specs.Model.{ModelState, fresh, ModelRun, sealTag, shown, modelRun}
-use Rattle.demands.specs.Run.{Begin, sealer, opener, Call, add, turn, write, close, feed, finish, begun, Entry, Run, run}
+use Rattle.demands.specs.Run.{Begin, sealer, opener, Start, Call, add, turn, write, close, feed, finish, begun, Entry, Run, run}
 use Rattle.demands.specs.Whole.{Admits, ThirdWhole}
 
 -- the same bytes in one piece: one add of A in stage 1; one add of A, turn and one write of W in stage 2; one feed of A in stage 3
@@ -48,66 +48,69 @@ noFinish (feed piece ∷ cs) = noFinish cs
 noFinish (finish ∷ cs) = false
 
 module _ (key bytes lens : List ℕ) where
-  -- any list of calls, refused ones included, after either begin, with any shared output
+  -- any list of calls, refused ones included, after either begin, from the whole list or from a head, with any shared output
   module _ (begin : Begin) (shared : List ℕ) (calls : List Call) where
-    -- what the calls' definitions make of the list, from the state that begin returned
-    abbrev pub ran : Run
-    ran = run (begun begin key bytes lens .state) shared calls
-
-    -- what the model says
+    -- what the model says: it sees no head
     abbrev pub expected : ModelRun
     expected = modelRun key bytes lens begin shared (fresh begin) calls
 
-    pub record AsModel : Type 0 where
-      -- begin succeeds
-      pub begins : begun begin key bytes lens .outcome ≡ success 0
-      -- all numbers, lengths and output bytes are the model's
-      pub entries : ran .entries ≡ expected .entries
-      pub output : ran .shared ≡ shown key bytes lens begin shared (expected .model)
-      -- the state is that of the same bytes given in one piece; in stage 0 it is all zero
-      pub state : ran .state
-          ≡ cond (eqb (expected .model .stage) 0) ended (run (begun begin key bytes lens .state) shared (onePiece (expected .model)) .state)
+    module _ (start : Start) where
+      -- what the calls' definitions make of the list, from the state that begin returned
+      abbrev pub ran : Run
+      ran = run (begun key bytes lens start begin .state) shared calls
+
+      pub record AsModel : Type 0 where
+        -- begin succeeds
+        pub begins : begun key bytes lens start begin .outcome ≡ success 0
+        -- all numbers, lengths and output bytes are the model's
+        pub entries : ran .entries ≡ expected .entries
+        pub output : ran .shared ≡ shown key bytes lens begin shared (expected .model)
+        -- the state is that of the same bytes given in one piece; in stage 0 it is all zero
+        pub state : ran .state
+            ≡ cond (eqb (expected .model .stage) 0) ended (run (begun key bytes lens start begin .state) shared (onePiece (expected .model)) .state)
 
   -- a sealer's list of calls
   module _ (shared : List ℕ) (calls : List Call) where
     abbrev pub sealerModel : ModelState
     sealerModel = expected sealer shared calls .model
 
-    abbrev pub sealerGave : List ℕ
-    sealerGave = gave calls (ran sealer shared calls .entries)
+    module _ (start : Start) where
+      abbrev pub sealerGave : List ℕ
+      sealerGave = gave calls (ran sealer shared calls start .entries)
 
-    pub record AsSealed : Type 0 where
-      -- turn gave the tag of sealing A, and the accepted writes' bytes, joined, are W xor the key stream of that tag
-      pub joined : sealerGave
-          ≡ cond (eqb (sealerModel .stage) 1) []
-          (sealTag key bytes lens (sealerModel .A) ++ streamed key (sealTag key bytes lens (sealerModel .A)) (sealerModel .W))
-      -- what turn and the writes gave is the first bytes of sealing all that was added, if the writes brought its first bytes again
-      pub firstBytes : take (length (sealerModel .W)) (sealerModel .A) ≡ sealerModel .W
-          → sealerGave ≡ take (cond (eqb (sealerModel .stage) 1) 0 (16 + length (sealerModel .W))) (sealed key (strings bytes lens) (sealerModel .A))
+      pub record AsSealed : Type 0 where
+        -- turn gave the tag of sealing A, and the accepted writes' bytes, joined, are W xor the key stream of that tag
+        pub joined : sealerGave
+            ≡ cond (eqb (sealerModel .stage) 1) []
+            (sealTag key bytes lens (sealerModel .A) ++ streamed key (sealTag key bytes lens (sealerModel .A)) (sealerModel .W))
+        -- what turn and the writes gave is the first bytes of sealing all that was added, if the writes brought its first bytes again
+        pub firstBytes : take (length (sealerModel .W)) (sealerModel .A) ≡ sealerModel .W
+            → sealerGave ≡ take (cond (eqb (sealerModel .stage) 1) 0 (16 + length (sealerModel .W))) (sealed key (strings bytes lens) (sealerModel .A))
 
   -- all that was fed to an opener
   abbrev pub fed : List ℕ → List ℕ → List Call → List ℕ
   fed T shared calls = expected (opener T) shared calls .model .A
 
   -- an opener's list of calls without a finish, then the first finish; and whole opening of the tag and all that was fed, with buffers large enough
-  module _ (T shared : List ℕ) (calls : List Call) (output scratch : List ℕ) where
+  module _ (T shared : List ℕ) (calls : List Call) (output scratch : List ℕ) (start : Start) where
+    abbrev pub finished : StepResult
+    finished = finishStep (ran (opener T) shared calls start .state) (ran (opener T) shared calls start .shared)
+
     pub record AsOpened : Type 0 where
       -- finish gives the number and the length of whole opening
-      pub outcome : finishStep (ran (opener T) shared calls .state) (ran (opener T) shared calls .shared) .outcome
-          ≡ openCall key bytes lens (T ++ fed T shared calls) output scratch .outcome
+      pub outcome : finished .outcome ≡ openCall key bytes lens (T ++ fed T shared calls) output scratch .outcome
       -- and its plaintext or zeros, and nothing else
-      pub plaintext : finishStep (ran (opener T) shared calls .state) (ran (opener T) shared calls .shared) .output
-          ≡ put shared 0 (take (length (fed T shared calls)) (openCall key bytes lens (T ++ fed T shared calls) output scratch .output))
+      pub plaintext : finished .output ≡ put shared 0 (take (length (fed T shared calls)) (openCall key bytes lens (T ++ fed T shared calls) output scratch .output))
 
--- The third demand: any key and header list that document 01 admits.
+-- The third demand: any key and header list that document 01 admits; lists of calls start from all of it, or from a head of any of its first strings.
 pub record Third (key bytes lens : List ℕ) : Type 0 where
   pub whole : (y output scratch : List ℕ) → length y - 16 ≤ length output → scratchNeed (length y - 16) ≤ length scratch → ThirdWhole key bytes lens y output scratch
-  pub sealers : (shared : List ℕ) (calls : List Call) → AsModel key bytes lens sealer shared calls
-  pub openers : (T shared : List ℕ) (calls : List Call) → length T ≡ 16 → AsModel key bytes lens (opener T) shared calls
-  pub seals : (shared : List ℕ) (calls : List Call) → AsSealed key bytes lens shared calls
-  pub opens : (T shared : List ℕ) (calls : List Call) (output scratch : List ℕ) → length T ≡ 16 → noFinish calls ≡ true
+  pub sealers : (start : Start) (shared : List ℕ) (calls : List Call) → AsModel key bytes lens sealer shared calls start
+  pub openers : (start : Start) (T shared : List ℕ) (calls : List Call) → length T ≡ 16 → AsModel key bytes lens (opener T) shared calls start
+  pub seals : (start : Start) (shared : List ℕ) (calls : List Call) → AsSealed key bytes lens shared calls start
+  pub opens : (start : Start) (T shared : List ℕ) (calls : List Call) (output scratch : List ℕ) → length T ≡ 16 → noFinish calls ≡ true
       → length (fed key bytes lens T shared calls) ≤ length output → scratchNeed (length (fed key bytes lens T shared calls)) ≤ length scratch
-      → AsOpened key bytes lens T shared calls output scratch
+      → AsOpened key bytes lens T shared calls output scratch start
 
 abbrev pub ThirdDemand : Type 0
 ThirdDemand = (key bytes lens : List ℕ) → Admits key bytes lens → Third key bytes lens
