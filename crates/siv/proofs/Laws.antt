@@ -92,6 +92,14 @@ first-none a b l e = go (ℕ-discrete (first a) 0)
     go (yes z) = (z, sym (first-pass a b l z) ∙ e)
     go (no z) = absurd (z (sym (first-stop a b z) ∙ e))
 
+-- so a first list decides where a row of it is due, and else the second
+pub first-append : (a b : List Row) → lacks 0 a ≡ true → first (a ++ b) ≡ cond (eqb (first a) 0) (first b) (first a)
+first-append a b l = go (ℕ-discrete (first a) 0)
+  where
+    go : Dec (first a ≡ 0) → first (a ++ b) ≡ cond (eqb (first a) 0) (first b) (first a)
+    go (yes z) = first-pass a b l z ∙ sym (ap (λ (t : Bool). cond t (first b) (first a)) (eq-eqb (first a) 0 z))
+    go (no z) = first-stop a b z ∙ sym (ap (λ (t : Bool). cond t (first b) (first a)) (ne-eqb (first a) 0 z))
+
 -- where the last row is 8 for a test that fails, none is due where the test is passed
 pub none-where : (b : Bool) → eqb (cond (not b) 8 0) 0 ≡ b
 none-where true = refl

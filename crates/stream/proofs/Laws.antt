@@ -5,7 +5,7 @@ use mathlib.Core.Bool.{Bool, true, false, not, cond, _&&_, and-eq-true-iff}
 use mathlib.Core.List.{List, [], _∷_, _++_, append-assoc}
 use Prim.Native.Nat.{ℕ, suc, _+_, _-_, _*_, _/_, _%_, _≤_, _<_}
 use native.Mathlib.Numerals.{add-one}
-use native.Mathlib.Decide.{decLt, ℕ-discrete}
+use native.Mathlib.Decide.{decLt}
 use native.Mathlib.Omega.{arith}
 use lib.Dec.{eqb, ltb}
 use lib.ListN.{length, getD, take, drop, replicate, length-drop, drop-of-length-le}
@@ -25,7 +25,7 @@ use Rattle.siv.specs.declared.Answer.the-variants.{Ok, Refused}
 use Rattle.siv.specs.declared.Refusal.the-variants.{Forged}
 use Rattle.siv.specs.Answer.{Outcome, Row, row, first, outcomeOf, success, withoutLength}
 use Rattle.siv.specs.Calls.{limit}
-use Rattle.siv.proofs.Laws.{lacks, not-due, first-not, first-pass, first-stop}
+use Rattle.siv.proofs.Laws.{lacks, not-due, first-not, first-pass, first-stop, first-append}
 use Rattle.head.specs.declared.Head.{Head}
 use Rattle.head.specs.declared.Made.{Made}
 use Rattle.head.specs.Head.{zeroHead, MakeResult, DidMake, settleHead}
@@ -296,39 +296,30 @@ begins n h made stage v {step} m d = subst (λ (r : StepResult). DidStep r step 
 -- ---- an opener's begin, whose tag is judged last
 
 module _ (rows : List Row) (present : lacks 0 rows ≡ true) (h : Head) (tag : List ℕ) where
-  -- a tag of 16 bytes leaves the number to the rows before it
-  tagged : length tag ≡ 16 → first (rows ++ tagRows (length tag)) ≡ first rows
-  tagged e = go (ℕ-discrete (first rows) 0)
-    where
-      go : Dec (first rows ≡ 0) → first (rows ++ tagRows (length tag)) ≡ first rows
-      go (yes z) = first-pass rows (tagRows (length tag)) present z ∙ ap (λ (t : Bool). cond (not t) 5 0) (eq-eqb (length tag) 16 e) ∙ sym z
-      go (no z) = first-stop rows (tagRows (length tag)) z
+  by-length : (t : Bool) → eqb (length tag) 16 ≡ t → first (rows ++ tagRows (length tag)) ≡ cond (eqb (first rows) 0) (cond (not t) 5 0) (first rows)
+  by-length t e = first-append rows (tagRows (length tag)) present ∙ ap (λ (u : Bool). cond (eqb (first rows) 0) (cond (not u) 5 0) (first rows)) e
 
+  -- a tag of 16 bytes leaves the number to the rows before it
   pub begins-tagged : (made : Made) (v : List ℕ) {step : Step} → length tag ≡ 16 → v ≡ part tag 0 16 → DidMake (settleHead (first rows) h) made
       → DidStep (beginBy (outcomeOf (made .answer) .number) (made .head) 3 v) step [] → DidStep (beginBy (first (rows ++ tagRows (length tag))) h 3 tag) step []
   begins-tagged made v {step} e p m d =
-      subst (λ (r : StepResult). DidStep r step []) (ap₂ (λ (n : ℕ) (w : List ℕ). beginBy n h 3 w) (sym (tagged e)) (p ∙ take-all 16 tag (omega arith)))
+      let whole : part tag 0 16 ≡ tag = take-all 16 tag (omega arith) in
+      subst (λ (r : StepResult). DidStep r step []) (ap₂ (λ (n : ℕ) (w : List ℕ). beginBy n h 3 w) (sym (by-length true (eq-eqb (length tag) 16 e) ∙ same (eqb (first rows) 0) refl)) (p ∙ whole))
       (begins (first rows) h made 3 v m d)
+    where
+      same : (t : Bool) → eqb (first rows) 0 ≡ t → cond t 0 (first rows) ≡ first rows
+      same true z = sym (eqb-true (first rows) 0 z)
+      same false z = refl
 
   -- any other is refused, with 5 where no row before it is due
-  pub begins-untagged : (before : Answer) {step : Step} → (length tag ≡ 16 → ⊥) → outcomeOf before ≡ withoutLength (first rows)
+  pub begins-untagged : (before : Answer) {step : Step} → eqb (length tag) 16 ≡ false → outcomeOf before ≡ withoutLength (first rows)
       → DidStep (refusedStep (cond (eqb (outcomeOf before .number) 0) 5 (outcomeOf before .number)) ended []) step []
       → DidStep (beginBy (first (rows ++ tagRows (length tag))) h 3 tag) step []
-  begins-untagged before {step} e o d = go (ℕ-discrete (first rows) 0)
+  begins-untagged before {step} e o d =
+      let number : outcomeOf before .number ≡ first rows = ap (λ (x : Outcome). x .number) o in
+      picked-else (eqb (first (rows ++ tagRows (length tag))) 0) _ _ (ap (λ (m : ℕ). eqb m 0) (by-length false e) ∙ due (eqb (first rows) 0) refl)
+      (subst (λ (m : ℕ). DidStep (refusedStep m ended []) step []) (ap (λ (m : ℕ). cond (eqb m 0) 5 m) number ∙ sym (by-length false e)) d)
     where
-      number : outcomeOf before .number ≡ first rows
-      number = ap (λ (x : Outcome). x .number) o
-
-      -- the number that is given, and the rows'
-      by : (n : ℕ) → (n ≡ 0 → ⊥) → cond (eqb (first rows) 0) 5 (first rows) ≡ n → first (rows ++ tagRows (length tag)) ≡ n
-          → DidStep (beginBy (first (rows ++ tagRows (length tag))) h 3 tag) step []
-      by n z p q =
-          picked-else (eqb (first (rows ++ tagRows (length tag))) 0) _ _ (ap (λ (m : ℕ). eqb m 0) q ∙ ne-eqb n 0 z)
-          (subst (λ (m : ℕ). DidStep (refusedStep m ended []) step []) (ap (λ (m : ℕ). cond (eqb m 0) 5 m) number ∙ p ∙ sym q) d)
-
-      go : Dec (first rows ≡ 0) → DidStep (beginBy (first (rows ++ tagRows (length tag))) h 3 tag) step []
-      go (yes z) =
-          by 5 (λ w. omega (arith, w)) (ap (λ (t : Bool). cond t 5 (first rows)) (eq-eqb (first rows) 0 z))
-          (first-pass rows (tagRows (length tag)) present z ∙ ap (λ (t : Bool). cond (not t) 5 0) (ne-eqb (length tag) 16 e))
-      go (no z) =
-          by (first rows) z (ap (λ (t : Bool). cond t 5 (first rows)) (ne-eqb (first rows) 0 z)) (first-stop rows (tagRows (length tag)) z)
+      due : (t : Bool) → eqb (first rows) 0 ≡ t → eqb (cond t 5 (first rows)) 0 ≡ false
+      due true z = refl
+      due false z = z

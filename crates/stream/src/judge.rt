@@ -2,8 +2,8 @@
 ghost use mathlib.Core.Path.{_≡_};
 ghost use mathlib.Core.Bool.{not, _&&_};
 ghost use Prim.Native.Nat.{_+_, _≤_};
-ghost use lib.Dec.{ltb};
-ghost use lib.ListN.{drop};
+ghost use lib.Dec.{eqb, ltb};
+ghost use lib.ListN.{length, drop};
 ghost use Rattle.siv.specs.Answer.{outcomeOf, first, withoutLength};
 ghost use Rattle.stream.specs.State.{allZero, writtenLimit, fits};
 ghost use Rattle.stream.specs.Steps.{addRows, turnRows, writeRows, feedRows, finishRows};
@@ -61,6 +61,13 @@ fn passes(most: usize, total: usize, n: usize) -> bool
     ensures { λ r. ⌜ r ≡ ltb most (total + n) ⌝ }
 {
     most - total < n
+}
+
+// Whether a tag has a tag's length.
+pub(crate) fn is_tag(tag: &[u8]) -> bool
+    ensures { λ r. ⌜ r ≡ eqb (length (now (tag .entry))) 16 ⌝ }
+{
+    tag.len() == Stream::TAG_LEN
 }
 
 // The refusals of add.

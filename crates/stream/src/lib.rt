@@ -63,7 +63,7 @@ impl Stream {
     pub fn begin_opener(key: &[u8], header: &[u8], lens: &[u32], tag: &[u8]) -> Step
         ensures { λ r. ⌜ DidStep (beginOpener (now (key .entry)) (now (header .entry)) (now (lens .entry)) (now (tag .entry))) r [] ⌝ }
     {
-        if tag.len() != Self::TAG_LEN {
+        if !judge::is_tag(tag) {
             return work::untagged(siv::judge::judge_header(key.len(), lens, header.len()));
         }
         work::begun(Head::make(key, header, lens), 3, octets::load(tag, 0))
@@ -80,7 +80,7 @@ impl Stream {
     pub fn begin_opener_from(head: Head, header: &[u8], lens: &[u32], tag: &[u8]) -> Step
         ensures { λ r. ⌜ DidStep (beginOpenerFrom head (now (header .entry)) (now (lens .entry)) (now (tag .entry))) r [] ⌝ }
     {
-        if tag.len() != Self::TAG_LEN {
+        if !judge::is_tag(tag) {
             return work::untagged(head::judge::judge_rest(head, lens, header.len()));
         }
         work::begun(head.extend(header, lens), 3, octets::load(tag, 0))

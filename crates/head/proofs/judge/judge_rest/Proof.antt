@@ -3,6 +3,7 @@
 use mathlib.Core.Path.{ap, sym, _∙_}
 use mathlib.Core.Bool.{not}
 use Prim.Native.Nat.{_≤_}
+use native.Mathlib.Omega.{arith}
 use borrow.Author.Needs.{needs}
 use borrow.Author.Tests.{lt-ltb, le-ltb, not-false}
 use Rattle.siv.proofs.Laws.{sum-passes}
@@ -21,7 +22,7 @@ few : (c : tie.After-struct-known) → c .before .before .before .before .args .
 few c = fit _ (sym (c .before .before .fits2 .ensures) ∙ not-false _ (c .before .if1 .left)) .few
 
 sub-if2 : tie.Need-sub-if2
-sub-if2 c = few c
+sub-if2 c = omega (arith, few c)
 
 returns-2 : tie.Need-returns-2
 returns-2 c = simp (sym (ap not (c .before .before .before .fits2 .ensures)) ∙ c .before .before .if1 .left, sym (sum-passes _ _ _ (few (c .before))) ∙ lt-ltb _ _ (c .if2 .taken))

@@ -1,8 +1,10 @@
 -- `stream::Stream::begin_opener` meets its contract.
 -- Assumes nothing.
-use mathlib.Core.Path.{refl}
+use mathlib.Core.Path.{_≡_, refl, sym, _∙_}
+use native.Mathlib.Omega.{arith}
 use lib.ListN.{length}
 use borrow.Author.Needs.{needs}
+use borrow.Author.Tests.{eqb-true, not-true, not-false}
 use Rattle.header.specs.Header.{strings}
 use Rattle.siv.specs.Calls.{headerRows}
 use Rattle.head.specs.Head.{headOf, makeHead}
@@ -10,6 +12,9 @@ use Rattle.stream.specs.Steps.{beginOpener}
 use Rattle.stream.proofs.Laws.{begins-tagged, begins-untagged}
 use Rattle.stream.proofs.Stream.begin_opener.Statement.{statement}
 use Rattle.stream.proofs.Stream.begin_opener.Tie as tie
+
+is-tag-requires : tie.Need-is-tag-requires
+is-tag-requires c κs = search needs
 
 judge-header-requires : tie.Need-judge-header-requires
 judge-header-requires c κs = search needs
@@ -20,14 +25,17 @@ untagged-requires c κs = search needs
 returns : tie.Need-returns
 unfolding beginOpener
 returns c =
-    let args = c .before .before .before .before .before .before .before .args in
-    begins-untagged (headerRows (length (args .key .now)) (args .lens .now) (length (args .header .now))) refl (headOf (args .key .now) (strings (args .header .now) (args .lens .now))) (args .tag .now) (c .before .judge-header .result) (c .before .before .if1 .taken) (c .before .judge-header .ensures) (c .untagged .ensures)
+    let args = c .before .before .before .before .before .before .before .before .args in
+    begins-untagged (headerRows (length (args .key .now)) (args .lens .now) (length (args .header .now))) refl (headOf (args .key .now) (strings (args .header .now) (args .lens .now))) (args .tag .now) (c .before .judge-header .result) (sym (c .before .before .before .is-tag .ensures) ∙ not-true _ (c .before .before .if1 .taken)) (c .before .judge-header .ensures) (c .untagged .ensures)
+
+tagged : (c : tie.Else1) → length (c .before .before .before .before .before .before .args .tag .now) ≡ 16
+tagged c = eqb-true _ 16 (sym (c .before .is-tag .ensures) ∙ not-false _ (c .if1 .left))
 
 make-requires : tie.Need-make-requires
 make-requires c κs = search needs
 
 load-requires : tie.Need-load-requires
-load-requires c κs = search needs
+load-requires c κs = omega (arith, tagged (c .before))
 
 begun-requires : tie.Need-begun-requires
 begun-requires c κs = search needs
@@ -35,13 +43,14 @@ begun-requires c κs = search needs
 returns-2 : tie.Need-returns-2
 unfolding beginOpener makeHead
 returns-2 c =
-    let args = c .before .before .before .before .before .before .before .before .args in
-    begins-tagged (headerRows (length (args .key .now)) (args .lens .now) (length (args .header .now))) refl (headOf (args .key .now) (strings (args .header .now) (args .lens .now))) (args .tag .now) (c .before .before .make .result) (c .before .load .result) (c .before .before .before .if1 .left) (c .before .load .ensures) (c .before .before .make .ensures) (c .begun .ensures)
+    let args = c .before .before .before .before .before .before .before .before .before .args in
+    begins-tagged (headerRows (length (args .key .now)) (args .lens .now) (length (args .header .now))) refl (headOf (args .key .now) (strings (args .header .now) (args .lens .now))) (args .tag .now) (c .before .before .make .result) (c .before .load .result) (tagged (c .before .before .before)) (c .before .load .ensures) (c .before .before .make .ensures) (c .begun .ensures)
 
 pub begin-opener-spec : {M : Type 1} → statement M
 begin-opener-spec =
     tie.close
     (tie.spec
+    is-tag-requires
     judge-header-requires
     untagged-requires
     returns
