@@ -1,4 +1,6 @@
-// RFC 5297's A.2 sealed and opened by pieces, against the document and the whole calls; then calls in wrong stages, on spoiled states, after the end and past the limit.
+// RFC 5297's A.2 sealed and opened by pieces and from heads, against the document and the whole calls; then calls in wrong stages, on spoiled states, after the end and past the limit.
+mod heads;
+
 ghost use Prim.Native.Nat.{_+_, _≤_, _<_};
 ghost use lib.ListN.{length};
 use rfc5297::A2_HEADER;
@@ -9,14 +11,19 @@ use siv::Answer;
 use stream::Step;
 use stream::Stream;
 
-fn state_of(step: Step) -> Stream {
+pub(crate) fn state_of(step: Step) -> Stream {
     let s = step.state;
     s
 }
 
-// Prints a label and an answer's number.
-fn show(label: &[u8], step: Step) {
+// Prints a label and the number of a step's answer.
+pub(crate) fn show(label: &[u8], step: Step) {
     let answer = step.answer;
+    show_answer(label, answer);
+}
+
+// Prints a label and an answer's number.
+pub(crate) fn show_answer(label: &[u8], answer: Answer) {
     printer::text(label);
     printer::text(b": ");
     printer::number((kinphlor::pack(answer) / 4294967296) as usize);
@@ -78,7 +85,7 @@ fn add_cut(s: Stream, p: &[u8], a: usize, b: usize) -> Stream
 }
 
 // Writes a part of it, behind the tag.
-fn write_at(s: Stream, p: &[u8], from: usize, to: usize, output: &mut [u8]) -> Stream
+pub(crate) fn write_at(s: Stream, p: &[u8], from: usize, to: usize, output: &mut [u8]) -> Stream
     requires { ⌜ (from ≤ to) × (to ≤ length (now p)) × (length (now p) ≤ 1048576) × (16 + length (now p) ≤ length (now output)) ⌝ }
 {
     state_of(s.write(&p[from..to], &mut output[16 + from..]))
@@ -127,19 +134,24 @@ fn seals(sealed: &[u8], a: usize, b: usize) -> bool
     same(&output, sealed)
 }
 
-// Whether the string, cut likewise, opens to A.2's plaintext.
-fn opens(sealed: &[u8], a: usize, b: usize) -> bool
-    requires { ⌜ (63 ≤ length (now sealed)) × (a ≤ b) × (b ≤ 47) ⌝ }
-{
+// Whether finish approves of what was fed, and it is A.2's plaintext.
+pub(crate) fn opened(fed: Stream, plain: &mut [u8]) -> bool {
     let p = A2_PLAINTEXT;
-    let mut plain = [0u8; 47];
-    let fed = feed_cut(opener_of(sealed), &sealed[16..], a, b, &mut plain);
-    let verdict = fed.finish(&mut plain);
+    let verdict = fed.finish(plain);
     let answer = verdict.answer;
     if let Answer::Refused(_) = answer {
         return false;
     }
-    same(&plain, &p)
+    same(plain, &p)
+}
+
+// Whether the string, cut likewise, opens to A.2's plaintext.
+fn opens(sealed: &[u8], a: usize, b: usize) -> bool
+    requires { ⌜ (63 ≤ length (now sealed)) × (a ≤ b) × (b ≤ 47) ⌝ }
+{
+    let mut plain = [0u8; 47];
+    let fed = feed_cut(opener_of(sealed), &sealed[16..], a, b, &mut plain);
+    opened(fed, &mut plain)
 }
 
 // How many pairs of places agree, from all pairs of A.2's 47 bytes and its two ends.
@@ -351,4 +363,5 @@ fn main() {
     limits();
     short_outputs();
     refused_begins();
+    heads::run();
 }
