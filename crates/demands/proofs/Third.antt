@@ -50,7 +50,7 @@ module _ (key bytes lens : List ℕ) (a : Admits key bytes lens) where
   -- a begin from a head gives what the begin from the whole list gives
   from : (start : Start) (begin : Begin) → begun key bytes lens start begin ≡ begun key bytes lens undivided begin
   from undivided begin = refl
-  from (divided n) begin = divided-as-undivided key bytes lens a n .begins begin
+  from (divided n) begin = divided-as-undivided .splits key bytes lens a n .begins begin
 
   sealer-begins : (start : Start) → begun key bytes lens start sealer ≡ doneStep 0 (stateOf key (strings bytes lens) 1 zeros 0 []) []
   unfolding beginSealer

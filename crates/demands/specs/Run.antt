@@ -5,6 +5,7 @@ use Prim.Native.Nat.{ℕ}
 use lib.ListN.{take, drop}
 use Rattle.header.specs.Header.{total}
 use Rattle.siv.specs.Answer.{Outcome}
+use Rattle.head.specs.declared.Head.{Head}
 use Rattle.head.specs.Head.{MakeResult, makeHead}
 use Rattle.stream.specs.declared.Stream.{Stream}
 use Rattle.stream.specs.Steps.{StepResult, beginSealer, beginOpener, beginSealerFrom, beginOpenerFrom, addStep, turnStep, writeStep, closeStep, feedStep, finishStep}
@@ -28,6 +29,11 @@ pub data Call : Type 0 where
   feed : List ℕ → Call
   finish : Call
 
+-- what begin gave, from a head and the strings that follow its own
+abbrev pub begunFrom : Head → List ℕ → List ℕ → Begin → StepResult
+begunFrom h bytes lens sealer = beginSealerFrom h bytes lens
+begunFrom h bytes lens (opener T) = beginOpenerFrom h bytes lens T
+
 -- a key and a header list
 module _ (key bytes lens : List ℕ) where
   -- what making a head from the first n strings gave
@@ -42,8 +48,7 @@ module _ (key bytes lens : List ℕ) where
   abbrev pub begun : Start → Begin → StepResult
   begun undivided sealer = beginSealer key bytes lens
   begun undivided (opener T) = beginOpener key bytes lens T
-  begun (divided n) sealer = beginSealerFrom (firstHead n .head) (restBytes n) (drop n lens)
-  begun (divided n) (opener T) = beginOpenerFrom (firstHead n .head) (restBytes n) (drop n lens) T
+  begun (divided n) begin = begunFrom (firstHead n .head) (restBytes n) (drop n lens) begin
 
 -- what a call gives on a state, with the shared output
 abbrev pub call : Stream → List ℕ → Call → StepResult
