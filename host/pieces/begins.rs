@@ -1,7 +1,7 @@
 //! The table of answers for making and extending a head and for every begin, and the head or state that each hands back.
 
 use crate::fields::Fields;
-use crate::head::{Head, LEN as HEAD_LEN};
+use crate::head::Head;
 use crate::headers;
 use crate::probe::{self, Base};
 use crate::state::{Field, State, LEN};
@@ -86,8 +86,8 @@ impl Case<'_> {
         };
         match self.gives {
             Gives::Head => {
-                let mut made = Head::from_bytes([0xa5; HEAD_LEN]);
-                check(probe::make(self.base, self.header, &mut made));
+                let (got, made) = probe::make(self.base, self.header);
+                check(got);
                 made.check(|| self.name(), head.as_ref().unwrap_or(&Head::ZERO));
             }
             Gives::Sealer => begins(None),
@@ -121,7 +121,8 @@ pub fn run(Pieces { peers, random, .. }: &mut Pieces) {
             let mut name = String::new();
             for at in choices([bases.len(), lists.len(), gives.len()], 3) {
                 let (lens, len) = &lists[at[1]];
-                let case = Case { base: bases[at[0]], header: Header { bytes: &bytes[7..7 + len], lens }, gives: gives[at[2]] };
+                let header = Header { bytes: &bytes[7..7 + len], lens };
+                let case = Case { base: bases[at[0]], header, gives: gives[at[2]] };
                 together.note(&case.check(peers));
                 name = case.name();
             }

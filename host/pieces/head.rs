@@ -47,6 +47,7 @@ impl Head {
     /// It is `expected`; if not, the message names the first field that differs.
     pub fn check(&self, what: impl Fn() -> String, expected: &Head) {
         self.begun.check(|| format!("{}: head", what()), &expected.begun);
-        check::holds(|| format!("{}: head, count {}, expected {}", what(), self.count, expected.count), self.count == expected.count);
+        let (want, got) = (expected.count, self.count);
+        check::holds(|| format!("{}: head: expected count {want}, got {got}", what()), got == want);
     }
 }

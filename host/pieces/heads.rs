@@ -45,8 +45,8 @@ fn done(what: impl Fn() -> String, answer: Answer) {
 
 /// A head of strings after a key or a head.
 fn made(base: Base, header: Header) -> Head {
-    let mut head = Head::ZERO;
-    done(|| format!("a head, header {header}"), probe::make(base, header, &mut head));
+    let (answer, head) = probe::make(base, header);
+    done(|| format!("a head, header {header}"), answer);
     head
 }
 
@@ -191,7 +191,8 @@ pub fn wall_unit(Pieces { peers, random, .. }: &mut Pieces) {
         for number in 0..RECORDS as u64 {
             let plain = random.bytes(RECORD_LEN);
             let last = number.to_be_bytes();
-            let context = Context { key: key.clone(), header: [&header[..], &last].concat(), lens: [&lens[..], &[8]].concat() };
+            let all = Header { bytes: &[&header[..], &last].concat(), lens: &[&lens[..], &[8]].concat() };
+            let context = Context::new(&key, all);
             for peer in peers.taking(RECORD_LEN) {
                 let sealed = peer.seal(&key, &context.strings(), &plain);
                 for (function, input, want) in [(Seal, &plain, &sealed), (Open, &sealed, &plain)] {
@@ -217,9 +218,8 @@ fn all_records(peers: &Peers, random: &mut Random, context: &Context) {
         let at = random.below(RECORDS);
         random.flip(&mut damaged[at * (RECORD_LEN + TAG_LEN)..][..RECORD_LEN + TAG_LEN]);
         left[at * RECORD_LEN..][..RECORD_LEN].fill(0);
-        let cases = [
-            (Seal, &plain, (0, 0), &sealed), (Open, &sealed, (0, RECORD_LEN as u64), &plain), (Open, &damaged, (8, 0), &left),
-        ];
+        let opened = (0, RECORD_LEN as u64);
+        let cases = [(Seal, &plain, (0, 0), &sealed), (Open, &sealed, opened, &plain), (Open, &damaged, (8, 0), &left)];
         for (function, input, answer, front) in cases {
             let what = || format!("{function:?}, {RECORDS} records by {} from one head", peer.name());
             let mut output = Lent::new(front.len() + 3);

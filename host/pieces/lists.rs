@@ -1,9 +1,9 @@
-//! Lists of calls after any begin, from a key or from a head of the list's first strings, each made from one seed: any call in any stage, pieces at the edges of blocks and of
-//! the limit, outputs long enough or not. Answers, output bytes and states are held against the model after every call.
+//! Lists of calls after any begin, from a key or from a head of the first header strings, each made from one seed: any call
+//! in any stage, pieces at the edges of blocks and of the limit, outputs long enough or not. Answers, output bytes and states
+//! are held against the model after every call.
 
 use crate::call::{Call, Kind};
 use crate::fields::Fields;
-use crate::head::Head;
 use crate::model::Model;
 use crate::probe::{self, Base};
 use crate::state::{Field, State, LEN};
@@ -49,7 +49,7 @@ pub fn run(pieces: &mut Pieces) {
             check::holds(|| format!("no list has {kind:?} with answer {number}"), seen);
         }
     }
-    check::holds(|| format!("of sealer and opener, from a key and from a head, lists begin with {begins:?}"), begins.len() == 4);
+    check::holds(|| format!("sealers and openers, from keys and from heads: lists have {begins:?}"), begins.len() == 4);
     for (kind, number) in AT_LIMIT {
         let seen = tally.contains_key(&(kind, number, true));
         check::holds(|| format!("no list has {kind:?} with answer {number} at the limit"), seen);
@@ -115,10 +115,10 @@ impl Start {
         let (key, header) = (Base::Key(&self.context.key), self.context.header());
         let tag = self.tag.as_ref().map(|tag| &tag[..]);
         let Some(split) = self.split else { return probe::begin(key, header, tag, state) };
-        let ([first, rest], mut head) = (header.split(split), Head::ZERO);
-        match probe::make(key, first, &mut head) {
-            (0, 0) => probe::begin(Base::Head(&head), rest, tag, state),
-            refused => refused,
+        let [first, rest] = header.split(split);
+        match probe::make(key, first) {
+            ((0, 0), head) => probe::begin(Base::Head(&head), rest, tag, state),
+            (refused, _) => refused,
         }
     }
 }

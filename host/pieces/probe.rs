@@ -45,8 +45,8 @@ pub enum Base<'a> {
     Head(&'a Head),
 }
 
-/// Makes a head from a key, or extends one.
-pub fn make(base: Base, header: Header, head: &mut Head) -> Answer {
+/// Makes a head from a key, or extends one: the answer, and the head that is handed back.
+pub fn make(base: Base, header: Header) -> (Answer, Head) {
     let Header { bytes, lens } = header;
     let mut made = match base {
         Base::Key(_) => [0xa5; head::LEN],
@@ -61,8 +61,7 @@ pub fn make(base: Base, header: Header, head: &mut Head) -> Answer {
             Base::Head(_) => probe_extend_head(to, head::LEN, bytes.as_ptr(), bytes.len(), lens.as_ptr(), lens.len()),
         }
     };
-    *head = Head::from_bytes(made);
-    answer(result)
+    (answer(result), Head::from_bytes(made))
 }
 
 /// An opener's begin where there is a tag, else a sealer's.
