@@ -63,6 +63,11 @@ fn split(peers: &Peers, random: &mut Random, context: &Context, at: usize) {
     let [next, last] = rest.split(random.below(rest.lens.len() + 1));
     made(Base::Head(&made(Base::Head(&head), next)), last).check(what, &all);
 
+    for sum in [126, 127] {
+        let goes_on = check_all(peers, &context.key, &head, &vec![0; sum - at]);
+        check::holds(|| format!("{}: {sum} strings go on: {goes_on}", what()), goes_on == (sum == 126));
+    }
+
     let n = random.pick(&PLAIN_LENS);
     let (plain, mut tag) = (random.bytes(n), [0; TAG_LEN]);
     for peer in peers.taking(n) {
@@ -170,10 +175,10 @@ fn rests(count: u64) -> Vec<Vec<u32>> {
     counts.filter(|&count| count <= 300).map(|count| vec![1; count as usize]).collect()
 }
 
-/// Extending a head and both begins from it; whether all went on.
-fn check_all(peers: &Peers, noise: &[u8], head: &Head, lens: &[u32]) -> bool {
-    let header = Header { bytes: &noise[..lens.iter().sum::<u32>() as usize], lens };
-    let all = [Gives::Head, Gives::Sealer, Gives::Opener(&noise[..TAG_LEN])];
+/// Extending a head and both begins from it, with strings and a tag from some bytes; whether all went on.
+fn check_all(peers: &Peers, bytes: &[u8], head: &Head, lens: &[u32]) -> bool {
+    let header = Header { bytes: &bytes[..lens.iter().sum::<u32>() as usize], lens };
+    let all = [Gives::Head, Gives::Sealer, Gives::Opener(&bytes[..TAG_LEN])];
     all.map(|gives| Case { base: Base::Head(head), header, gives }.check(peers).is_empty()) == [true; 3]
 }
 
