@@ -2,6 +2,7 @@
 //! the tables and writes docs/BENCHMARKS.md. Run by make bench, from the repository's root.
 
 mod callgrind;
+mod head;
 mod machine;
 mod measure;
 mod pieces;
@@ -36,5 +37,6 @@ fn bench() {
     report.section("Instructions", callgrind::describe("target/host/once"));
     report.section("Pieces against the whole call", pieces::describe());
     report.section("A ring against single calls", ring::describe());
+    report.section("From a head against the whole call", head::describe());
     report.write("docs/BENCHMARKS.md");
 }

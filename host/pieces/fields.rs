@@ -1,6 +1,7 @@
 //! The state that stands where the model is, field by field as document 01 has them, with libcrypto's AES.
 
 use crate::aes;
+use crate::head::Head;
 use crate::model::Model;
 use crate::state::{tail_len, Field, State};
 use shared::context::{Context, Peers};
@@ -8,8 +9,8 @@ use shared::mac::Mac;
 
 pub struct Fields<'a> {
     mac: Mac<'a>,
-    /// What begin makes and no later call changes: key width, round keys, L and D.
-    begun: State,
+    /// The head of the key and all header strings.
+    pub head: Head,
 }
 
 impl<'a> Fields<'a> {
@@ -22,7 +23,7 @@ impl<'a> Fields<'a> {
         begun.set(Field::CtrKeys, &aes::round_keys(ctr_key));
         begun.set(Field::L, &mac.l());
         begun.set(Field::D, &mac.header_result(&context.strings()));
-        Fields { mac, begun }
+        Fields { mac, head: Head { begun, count: context.lens.len() as u64 } }
     }
 
     pub fn state(&self, model: &Model) -> State {
@@ -31,7 +32,7 @@ impl<'a> Fields<'a> {
         }
         let plain = model.plain();
         let (passed, tail) = plain.split_at(plain.len() - tail_len(plain.len() as u64));
-        let mut state = self.begun.clone();
+        let mut state = self.head.begun.clone();
         state.set_number(Field::Stage, model.stage);
         state.set(Field::Chain, &self.mac.chain(passed));
         state.set(Field::V, &model.tag);

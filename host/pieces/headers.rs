@@ -17,9 +17,9 @@ use shared::ring::Rings;
 use shared::whole::{self, Room, Want};
 use Function::{Open, Seal};
 
-const STRING_LENS: [u32; 8] = [0, 1, 15, 16, 17, 31, 32, 33];
-const PLAIN_LENS: [usize; 12] = [0, 1, 15, 16, 17, 31, 32, 33, 40, 47, 100, 1000];
-const PIECE_LENS: [usize; 9] = [1, 7, 15, 16, 17, 31, 32, 33, 1000];
+pub const STRING_LENS: [u32; 8] = [0, 1, 15, 16, 17, 31, 32, 33];
+pub const PLAIN_LENS: [usize; 12] = [0, 1, 15, 16, 17, 31, 32, 33, 40, 47, 100, 1000];
+pub const PIECE_LENS: [usize; 9] = [1, 7, 15, 16, 17, 31, 32, 33, 1000];
 
 /// Every count of strings under every key width.
 pub fn counts(Pieces { peers, random, .. }: &mut Pieces) {
@@ -137,7 +137,7 @@ const DAMAGES: [(&str, Damage); 5] = [
 ];
 
 /// Lists that are refused, and with what.
-const WRONG_LISTS: [(u64, fn(&mut Context)); 4] = [
+pub const WRONG_LISTS: [(u64, fn(&mut Context)); 4] = [
     (3, |context| context.header.push(0)),
     (3, |context| match context.lens.last_mut() {
         Some(len) => *len += 1,

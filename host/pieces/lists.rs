@@ -1,10 +1,11 @@
-//! Lists of calls after either begin, each made from one seed: any call in any stage, pieces at the edges of blocks and of
-//! the limit, outputs long enough or not. Answers, output bytes and states are held against the model after every call.
+//! Lists of calls after any begin, from a key or from a head of the first header strings, each made from one seed: any call
+//! in any stage, pieces at the edges of blocks and of the limit, outputs long enough or not. Answers, output bytes and states
+//! are held against the model after every call.
 
 use crate::call::{Call, Kind};
 use crate::fields::Fields;
 use crate::model::Model;
-use crate::probe;
+use crate::probe::{self, Base};
 use crate::state::{Field, State, LEN};
 use crate::Pieces;
 use shared::check;
@@ -13,8 +14,9 @@ use shared::context::{Context, Peers};
 use shared::lent::Lent;
 use shared::library::{KEY_LENS, LIMIT, TAG_LEN};
 use shared::mac::Block;
+use shared::probe::Answer;
 use shared::random::Random;
-use std::collections::BTreeMap;
+use std::collections::{BTreeMap, BTreeSet};
 
 const LISTS: u64 = 50_000;
 /// One list in so many has a text at the limit.
@@ -34,9 +36,10 @@ const AT_LIMIT: [(Kind, u64); 9] = [
 /// Lists of many seeds, which bring every answer of every call.
 pub fn run(pieces: &mut Pieces) {
     let mut tally = Tally::new();
+    let mut begins = BTreeSet::new();
     let seeds = (0..LISTS).map(|i| pieces.seed.wrapping_add(i));
     for seed in seeds.clone() {
-        run_list(pieces, seed, false, &mut tally);
+        begins.insert(run_list(pieces, seed, false, &mut tally));
     }
     let calls: u64 = tally.values().sum();
     println!("pieces:     {LISTS} lists of seeds {} to {}, {calls} calls", pieces.seed, seeds.last().unwrap());
@@ -46,6 +49,7 @@ pub fn run(pieces: &mut Pieces) {
             check::holds(|| format!("no list has {kind:?} with answer {number}"), seen);
         }
     }
+    check::holds(|| format!("sealers and openers, from keys and from heads: lists have {begins:?}"), begins.len() == 4);
     for (kind, number) in AT_LIMIT {
         let seen = tally.contains_key(&(kind, number, true));
         check::holds(|| format!("no list has {kind:?} with answer {number} at the limit"), seen);
@@ -60,6 +64,8 @@ pub fn show(pieces: &mut Pieces) {
 /// What begin is given, and the bytes that the list is to add or feed if nothing comes between.
 struct Start {
     context: Context,
+    /// How many strings a head has, from which it then begins with the others.
+    split: Option<usize>,
     tag: Option<Block>,
     text: Vec<u8>,
 }
@@ -70,6 +76,7 @@ impl Start {
         let strings = if random.once_in(20) { 126 } else { random.below(4) };
         let lens = (0..strings).map(|_| random.pick(&[0, 1, 12, 15, 16, 17, 20, 33])).collect();
         let context = Context::random(random, key_len, lens);
+        let split = random.once_in(2).then(|| random.below(strings + 1));
         let len = match random.below(LARGE) {
             0 => LIMIT - random.pick(&[0, 0, 0, 1, 16, 33]),
             draw if draw % 2 == 0 => random.pick(&EDGES),
@@ -88,7 +95,7 @@ impl Start {
             plain = chosen::plaintext(&peers.libcrypto, &context.key, &context.strings(), &tag, plain);
         }
         if random.once_in(2) {
-            return Start { context, tag: None, text: plain };
+            return Start { context, split, tag: None, text: plain };
         }
 
         // A quarter of the openers get a forged string.
@@ -100,11 +107,19 @@ impl Start {
             2 => _ = random.flip(&mut text),
             _ => (),
         }
-        Start { context, tag: Some(tag), text }
+        Start { context, split, tag: Some(tag), text }
     }
 
-    fn tag(&self) -> Option<&[u8]> {
-        self.tag.as_ref().map(|tag| &tag[..])
+    /// Begins, with a head of the first strings where the list is split.
+    fn begin(&self, state: &mut State) -> Answer {
+        let (key, header) = (Base::Key(&self.context.key), self.context.header());
+        let tag = self.tag.as_ref().map(|tag| &tag[..]);
+        let Some(split) = self.split else { return probe::begin(key, header, tag, state) };
+        let [first, rest] = header.split(split);
+        match probe::make(key, first) {
+            ((0, 0), head) => probe::begin(Base::Head(&head), rest, tag, state),
+            (refused, _) => refused,
+        }
     }
 }
 
@@ -118,6 +133,8 @@ struct List<'a> {
     goal: usize,
     model: Model<'a>,
     fields: Fields<'a>,
+    /// The state that begin gave, and the one that the calls since have made of it.
+    begun: State,
     state: State,
     /// The opener's one output, as the calls left it and as the model has it.
     one: Option<(Lent, Lent)>,
@@ -130,11 +147,12 @@ struct List<'a> {
     talks: bool,
 }
 
-fn run_list(pieces: &Pieces, seed: u64, talks: bool, tally: &mut Tally) {
+/// Runs the list of a seed. Says whether its begin was an opener's, and whether it was from a head.
+fn run_list(pieces: &Pieces, seed: u64, talks: bool, tally: &mut Tally) -> (bool, bool) {
     let mut random = Random(seed);
     let start = Start::random(&mut random, &pieces.peers);
     let mut state = State([0xa5; LEN]);
-    let begun = probe::begin(&start.context.key, start.context.header(), start.tag(), &mut state);
+    let answer = start.begin(&mut state);
 
     let len = start.text.len();
     let one_len = match random.below(8) {
@@ -151,6 +169,7 @@ fn run_list(pieces: &Pieces, seed: u64, talks: bool, tally: &mut Tally) {
         goal: if one.is_some() { len.min(one_len) } else { len },
         model: Model::new(&pieces.peers, &start.context, start.tag),
         fields: Fields::new(&pieces.peers, &start.context),
+        begun: state.clone(),
         state,
         one,
         other_writes: random.once_in(4),
@@ -159,7 +178,7 @@ fn run_list(pieces: &Pieces, seed: u64, talks: bool, tally: &mut Tally) {
         talks,
         random,
     };
-    check::holds(|| format!("{}, begin: expected (0, 0), got {begun:?}", list.name()), begun == (0, 0));
+    check::holds(|| format!("{}, begin: expected (0, 0), got {answer:?}", list.name()), answer == (0, 0));
     list.state.check(|| format!("{}, begin", list.name()), &list.fields.state(&list.model));
     let most = 1 + list.random.below(40);
     while list.calls < most && (list.model.stage != 0 || !list.random.once_in(3)) {
@@ -167,6 +186,7 @@ fn run_list(pieces: &Pieces, seed: u64, talks: bool, tally: &mut Tally) {
         *tally.entry((kind, number, list.model.a.len() == LIMIT)).or_default() += 1;
     }
     list.end();
+    (start.tag.is_some(), start.split.is_some())
 }
 
 impl List<'_> {
@@ -285,7 +305,7 @@ impl List<'_> {
         }
     }
 
-    /// The state of the same bytes given in one piece.
+    /// The state of the same bytes given in one piece after the same begin.
     fn one_piece(&self, what: impl Fn() -> String) -> State {
         let (a, w) = (&self.model.a, &self.model.w);
         let calls: &[(Kind, &[u8])] = match self.model.stage {
@@ -294,6 +314,6 @@ impl List<'_> {
             2 => &[(Kind::Add, a), (Kind::Turn, &[]), (Kind::Write, w)],
             _ => &[(Kind::Feed, a)],
         };
-        probe::states(&self.start.context, self.start.tag(), calls, what).pop().unwrap()
+        probe::states(&self.begun, calls, what).pop().unwrap()
     }
 }

@@ -1,5 +1,5 @@
 //! libprobe.a against models that have their tags, openings and AES from OpenSSL's libcrypto and libgcrypt: whole calls
-//! with any header list, and piecewise sealing and opening. Its last line is `pieces: N checks passed`.
+//! with any header list, prepared heads, and piecewise sealing and opening. Its last line is `pieces: N checks passed`.
 //! With a seed as its argument it runs the one list of calls that this seed makes, and prints each call.
 
 mod aes;
@@ -7,7 +7,9 @@ mod begins;
 mod call;
 mod counter;
 mod fields;
+mod head;
 mod headers;
+mod heads;
 mod lists;
 mod model;
 mod probe;
@@ -44,7 +46,10 @@ fn main() {
         ("the table of answers for whole calls", headers::answers),
         ("rings with a record's key at any slots", headers::ring_slots),
         ("ring buffers of every length", headers::ring_buffers),
-        ("the table of answers for begins", begins::run),
+        ("the table of answers for heads and begins", begins::run),
+        ("every split of a list into head and rest", heads::splits),
+        ("heads with a field spoiled", heads::spoiled),
+        ("a wall unit's records from one head", heads::wall_unit),
         ("every call on good and spoiled states", spoiled::run),
         ("lists of calls beside the model", lists::run),
     ]);

@@ -1,15 +1,23 @@
-//! The piecewise calls of libprobe.a as safe Rust.
+//! Heads and the piecewise calls of libprobe.a as safe Rust.
 
 use crate::call::{Call, Kind};
+use crate::head::{self, Head};
 use crate::state::{State, LEN};
 use shared::check;
-use shared::context::Context;
 use shared::library::TAG_LEN;
 use shared::probe::{answer, Answer};
 use shared::whole::Header;
 
 #[rustfmt::skip]
 unsafe extern "C" {
+    fn probe_make_head(key: *const u8, key_len: usize, header: *const u8, header_len: usize, lens: *const u32,
+        lens_len: usize, head: *mut u8, head_len: usize) -> u64;
+    fn probe_extend_head(head: *mut u8, head_len: usize, header: *const u8, header_len: usize, lens: *const u32,
+        lens_len: usize) -> u64;
+    fn probe_begin_sealer_from(head: *const u8, head_len: usize, header: *const u8, header_len: usize, lens: *const u32,
+        lens_len: usize, state: *mut u8, state_len: usize) -> u64;
+    fn probe_begin_opener_from(head: *const u8, head_len: usize, header: *const u8, header_len: usize, lens: *const u32,
+        lens_len: usize, tag: *const u8, tag_len: usize, state: *mut u8, state_len: usize) -> u64;
     fn probe_begin_sealer(key: *const u8, key_len: usize, header: *const u8, header_len: usize, lens: *const u32,
         lens_len: usize, state: *mut u8, state_len: usize) -> u64;
     fn probe_begin_opener(key: *const u8, key_len: usize, header: *const u8, header_len: usize, lens: *const u32,
@@ -24,18 +32,56 @@ unsafe extern "C" {
     fn probe_finish(state: *mut u8, state_len: usize, output: *mut u8, output_len: usize) -> u64;
 }
 
+type BeginSealer = unsafe extern "C" fn(*const u8, usize, *const u8, usize, *const u32, usize, *mut u8, usize) -> u64;
+type BeginOpener =
+    unsafe extern "C" fn(*const u8, usize, *const u8, usize, *const u32, usize, *const u8, usize, *mut u8, usize) -> u64;
+
 // In all that follows slices are valid for their lengths, never null, and those that are written overlap no other.
 
+/// What header strings are taken in after.
+#[derive(Clone, Copy)]
+pub enum Base<'a> {
+    Key(&'a [u8]),
+    Head(&'a Head),
+}
+
+/// Makes a head from a key, or extends one: the answer, and the head that is handed back.
+pub fn make(base: Base, header: Header) -> (Answer, Head) {
+    let Header { bytes, lens } = header;
+    let mut made = match base {
+        Base::Key(_) => [0xa5; head::LEN],
+        Base::Head(head) => head.to_bytes(),
+    };
+    let to = made.as_mut_ptr();
+    let result = unsafe {
+        match base {
+            Base::Key(key) => probe_make_head(
+                key.as_ptr(), key.len(), bytes.as_ptr(), bytes.len(), lens.as_ptr(), lens.len(), to, head::LEN,
+            ),
+            Base::Head(_) => probe_extend_head(to, head::LEN, bytes.as_ptr(), bytes.len(), lens.as_ptr(), lens.len()),
+        }
+    };
+    (answer(result), Head::from_bytes(made))
+}
+
 /// An opener's begin where there is a tag, else a sealer's.
-pub fn begin(key: &[u8], header: Header, tag: Option<&[u8]>, state: &mut State) -> Answer {
+pub fn begin(base: Base, header: Header, tag: Option<&[u8]>, state: &mut State) -> Answer {
     let (Header { bytes, lens }, state) = (header, state.0.as_mut_ptr());
+    let head_bytes;
+    let (from, sealer, opener): (&[u8], BeginSealer, BeginOpener) = match base {
+        Base::Key(key) => (key, probe_begin_sealer, probe_begin_opener),
+        Base::Head(head) => {
+            head_bytes = head.to_bytes();
+            (&head_bytes, probe_begin_sealer_from, probe_begin_opener_from)
+        }
+    };
     answer(unsafe {
         match tag {
-            None => probe_begin_sealer(
-                key.as_ptr(), key.len(), bytes.as_ptr(), bytes.len(), lens.as_ptr(), lens.len(), state, LEN,
+            None => sealer(
+                from.as_ptr(), from.len(), bytes.as_ptr(), bytes.len(), lens.as_ptr(), lens.len(), state, LEN,
             ),
-            Some(tag) => probe_begin_opener(
-                key.as_ptr(), key.len(), bytes.as_ptr(), bytes.len(), lens.as_ptr(), lens.len(),
+            Some(tag) => opener(
+                from.as_ptr(), from.len(), bytes.as_ptr(), bytes.len(), lens.as_ptr(), lens.len(),
                 tag.as_ptr(), tag.len(), state, LEN,
             ),
         }
@@ -59,12 +105,10 @@ pub fn step(state: &mut State, call: &Call, output: &mut [u8]) -> Answer {
     })
 }
 
-/// The states that begin and then each of some calls hand back. All must succeed.
-pub fn states(context: &Context, tag: Option<&[u8]>, calls: &[(Kind, &[u8])], what: impl Fn() -> String) -> Vec<State> {
-    let mut state = State::ENDED;
-    let begun = begin(&context.key, context.header(), tag, &mut state);
-    check::holds(|| format!("{}: begin: expected (0, 0), got {begun:?}", what()), begun == (0, 0));
-    let mut states = vec![state.clone()];
+/// The states that each of some calls after a begin hands back. All must succeed.
+pub fn states(begun: &State, calls: &[(Kind, &[u8])], what: impl Fn() -> String) -> Vec<State> {
+    let mut state = begun.clone();
+    let mut states = vec![];
     let mut output = vec![0; calls.iter().map(|(_, piece)| piece.len()).sum::<usize>().max(TAG_LEN)];
     for &(kind, piece) in calls {
         let call = Call { kind, piece: piece.to_vec() };

@@ -2,7 +2,7 @@
 //! that the table of answers for piecewise calls.
 
 use crate::call::{Call, Kind};
-use crate::probe;
+use crate::probe::{self, Base};
 use crate::state::{Field, State};
 use crate::steps::{self, Case, REASONS};
 use crate::Pieces;
@@ -15,7 +15,8 @@ use shared::table::Together;
 use std::collections::{BTreeMap, BTreeSet};
 
 const TOTALS: [usize; 11] = [0, 1, 15, 16, 17, 31, 32, 33, 47, 48, 100];
-const WIDTHS: [u64; 20] = [
+/// Key widths, and numbers that are none.
+pub const WIDTHS: [u64; 20] = [
     0, 1, 8, 15, 16, 17, 23, 24, 25, 31, 32, 33, 48, 64, 255, 256 + 16, (1 << 32) + 16, (1 << 32) + 24, (1 << 63) + 32,
     u64::MAX,
 ];
@@ -62,8 +63,14 @@ fn good_states(peers: &Peers, random: &mut Random, context: &Context, total: usi
     let (some, others) = plain.split_at(total / 2);
     let sealer = [(Kind::Add, &plain[..]), (Kind::Turn, &[]), (Kind::Write, some), (Kind::Write, others)];
     let opener = [(Kind::Feed, text)];
-    let states = |tag, calls| probe::states(context, tag, calls, || format!("a good state of {total} bytes"));
-    [&states(None, &sealer)[1..], &states(Some(tag), &opener)[1..]].concat()
+    let states = |tag, calls| {
+        let what = || format!("a good state of {total} bytes");
+        let mut begun = State::ENDED;
+        let answer = probe::begin(Base::Key(&context.key), context.header(), tag, &mut begun);
+        check::holds(|| format!("{}: begin: expected (0, 0), got {answer:?}", what()), answer == (0, 0));
+        probe::states(&begun, calls, what)
+    };
+    [states(None, &sealer), states(Some(tag), &opener)].concat()
 }
 
 /// A state as if more blocks had gone through it, up to a total of at most `most`.
@@ -104,17 +111,7 @@ fn spoiled_states(random: &mut Random, good: &State) -> Vec<(Option<Field>, Stat
         state.get_mut(Field::Tail)[at] ^= 1 + random.below(255) as u8;
         unjudged.push((Field::Tail, state));
     }
-    for field in USED_AS_THEY_ARE {
-        let len = good.get(field).len();
-        for at in (0..len).step_by(16) {
-            let mut state = good.clone();
-            random.flip(&mut state.get_mut(field)[at..at + 16]);
-            unjudged.push((field, state));
-        }
-        let mut state = good.clone();
-        state.set(field, &random.bytes(len));
-        unjudged.push((field, state));
-    }
+    unjudged.extend(changed(random, good, &USED_AS_THEY_ARE));
     for (field, state) in unjudged {
         // What finish accepts with that field.
         if good.number(Field::Stage) == 3 {
@@ -123,6 +120,23 @@ fn spoiled_states(random: &mut Random, good: &State) -> Vec<(Option<Field>, Stat
             all.push((Some(field), genuine));
         }
         all.push((Some(field), state));
+    }
+    all
+}
+
+/// The state with a bit of each block of some fields changed in turn, and with each field made anew.
+pub fn changed(random: &mut Random, good: &State, fields: &[Field]) -> Vec<(Field, State)> {
+    let mut all = vec![];
+    for &field in fields {
+        let len = good.get(field).len();
+        for at in (0..len).step_by(16) {
+            let mut state = good.clone();
+            random.flip(&mut state.get_mut(field)[at..at + 16]);
+            all.push((field, state));
+        }
+        let mut state = good.clone();
+        state.set(field, &random.bytes(len));
+        all.push((field, state));
     }
     all
 }

@@ -49,6 +49,9 @@ pub struct State(pub [u8; LEN]);
 impl State {
     pub const ENDED: State = State([0; LEN]);
 
+    /// The place of what begin makes and no later call changes: key width, round keys, L and D.
+    pub const BEGUN: Range<usize> = 1..521;
+
     pub fn get(&self, field: Field) -> &[u8] {
         &self.0[field.place()]
     }

@@ -9,7 +9,8 @@ use crate::state::{tail_len, Field, Field::*, State};
 use shared::mac::{double, last_block, pad, subkey, xor, Block};
 use shared::probe::Answer;
 
-const WIDTHS: [u64; 3] = [16, 24, 32];
+/// The key widths.
+pub const WIDTHS: [u64; 3] = [16, 24, 32];
 
 /// A call on a state with an output of some length.
 pub struct Case<'a> {
@@ -63,17 +64,28 @@ fn cipher(state: &State, keys: Field) -> Cipher {
     Cipher::new(state.number(Width), state.get(keys))
 }
 
+/// CMAC of a text with the state's L, where the chain is over what came before the text.
+fn cmac(state: &State, chain: Block, text: &[u8]) -> Block {
+    let cipher = cipher(state, MacKeys);
+    let (front, last) = text.split_at(last_block(text.len()));
+    let chain = front.chunks(16).fold(chain, |chain, block| cipher.block(xor(&chain, block)));
+    cipher.block(xor(&xor(&pad(last), &subkey(state.block(L), last)), &chain))
+}
+
+/// D over header strings more.
+pub fn header_result(state: &State, strings: &[&[u8]]) -> Block {
+    strings.iter().fold(state.block(D), |d, string| xor(&double(d), &cmac(state, [0; 16], string)))
+}
+
 /// The tag of all that was added or fed: CMAC goes on from the chain over the tail's bytes with D at their end.
 pub fn tag(state: &State) -> Block {
-    let (cipher, d) = (cipher(state, MacKeys), state.block(D));
+    let d = state.block(D);
     let tail = &state.get(Tail)[..tail_len(state.number(Total))];
     let end = match tail.len().checked_sub(16) {
         None => xor(&double(d), &pad(tail)).to_vec(),
         Some(at) => [&tail[..at], &xor(&tail[at..], &d)].concat(),
     };
-    let (front, last) = end.split_at(last_block(end.len()));
-    let chain = front.chunks(16).fold(state.block(Chain), |chain, block| cipher.block(xor(&chain, block)));
-    cipher.block(xor(&xor(&pad(last), &subkey(state.block(L), last)), &chain))
+    cmac(state, state.block(Chain), &end)
 }
 
 /// A piece xored with the state's key stream.

@@ -12,6 +12,10 @@ pub struct Context {
 }
 
 impl Context {
+    pub fn new(key: &[u8], header: Header) -> Context {
+        Context { key: key.to_vec(), header: header.bytes.to_vec(), lens: header.lens.to_vec() }
+    }
+
     pub fn random(random: &mut Random, key_len: usize, lens: Vec<u32>) -> Context {
         let header_len: u32 = lens.iter().sum();
         Context { key: random.bytes(key_len), header: random.bytes(header_len as usize), lens }

@@ -1,4 +1,4 @@
-//! The whole calls of libprobe.a, with any header list, and a whole string by pieces, as safe Rust.
+//! The whole calls of libprobe.a, with any header list, a whole string by pieces, and records from one head, as safe Rust.
 
 use crate::check::fail;
 use crate::library::{self, Function};
@@ -16,6 +16,10 @@ unsafe extern "C" {
     fn probe_seal_pieces(key: *const u8, key_len: usize, header: *const u8, header_len: usize, lens: *const u32,
         lens_len: usize, input: *const u8, input_len: usize, n: usize, output: *mut u8, output_len: usize) -> u64;
     fn probe_open_pieces(key: *const u8, key_len: usize, header: *const u8, header_len: usize, lens: *const u32,
+        lens_len: usize, input: *const u8, input_len: usize, n: usize, output: *mut u8, output_len: usize) -> u64;
+    fn probe_seal_records(key: *const u8, key_len: usize, header: *const u8, header_len: usize, lens: *const u32,
+        lens_len: usize, input: *const u8, input_len: usize, n: usize, output: *mut u8, output_len: usize) -> u64;
+    fn probe_open_records(key: *const u8, key_len: usize, header: *const u8, header_len: usize, lens: *const u32,
         lens_len: usize, input: *const u8, input_len: usize, n: usize, output: *mut u8, output_len: usize) -> u64;
 }
 
@@ -59,12 +63,17 @@ fn open_ring(key_len: usize, given: &Given, output: &mut [u8], scratch: &mut [u8
     (number, slot[0] as u64, length)
 }
 
-/// A whole string by pieces of n bytes.
-pub fn by_pieces(function: Function, given: &Given, n: usize, output: &mut [u8]) -> Answer {
+/// A call that cuts its input by a length.
+type Cutting = unsafe extern "C" fn(
+    *const u8, usize, *const u8, usize, *const u32, usize, *const u8, usize, usize, *mut u8, usize,
+) -> u64;
+
+/// One of two such calls, for sealing and for opening.
+fn cut([seal, open]: [Cutting; 2], function: Function, given: &Given, n: usize, output: &mut [u8]) -> Answer {
     let raw = match function {
-        Function::Seal => probe_seal_pieces,
-        Function::Open => probe_open_pieces,
-        Function::OpenRing(_) => fail("no ring opens by pieces".to_string()),
+        Function::Seal => seal,
+        Function::Open => open,
+        Function::OpenRing(_) => fail("no ring opens what is cut".to_string()),
     };
     let Given { key, header: Header { bytes, lens }, input } = *given;
     answer(unsafe {
@@ -73,4 +82,14 @@ pub fn by_pieces(function: Function, given: &Given, n: usize, output: &mut [u8])
             n, output.as_mut_ptr(), output.len(),
         )
     })
+}
+
+/// A whole string by pieces of n bytes.
+pub fn by_pieces(function: Function, given: &Given, n: usize, output: &mut [u8]) -> Answer {
+    cut([probe_seal_pieces, probe_open_pieces], function, given, n, output)
+}
+
+/// Records with n bytes of plaintext each, all begun from one head: the first refusal, or else the last answer.
+pub fn records(function: Function, given: &Given, n: usize, output: &mut [u8]) -> Answer {
+    cut([probe_seal_records, probe_open_records], function, given, n, output)
 }

@@ -23,6 +23,13 @@ impl<'a> Header<'a> {
         });
         ends.map(|(start, end)| &self.bytes[start..end]).collect()
     }
+
+    /// The list of the first `count` strings, and that of the others.
+    pub fn split(self, count: usize) -> [Header<'a>; 2] {
+        let (first, others) = self.lens.split_at(count);
+        let (front, back) = self.bytes.split_at(first.iter().sum::<u32>() as usize);
+        [Header { bytes: front, lens: first }, Header { bytes: back, lens: others }]
+    }
 }
 
 /// Its lengths.

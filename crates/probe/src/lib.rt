@@ -1,11 +1,16 @@
-// The calls that the C interface leaves out, exported for the host tests alone: whole calls with any header list, and each piecewise call on a state given as bytes.
+// The calls that the C interface leaves out, exported for the host tests alone: whole calls with any header list, and each piecewise call on a head or a state given as bytes.
+mod fields;
+mod heads;
 mod pieces;
+mod records;
 mod state;
 
+use head::Head;
+use head::Made;
 use stream::Step;
 use stream::Stream;
 
-// What a call answers where the state's buffer has not state::LEN bytes: no number of document 01's.
+// What a call answers where a state's buffer has not state::LEN bytes, or a head's not heads::LEN: no number of document 01's.
 const NO_STATE: u64 = 0xffffffff00000000;
 
 // Hands the state back through its buffer and the answer as one number.
@@ -16,6 +21,17 @@ fn give(step: Step, bytes: &mut [u8]) -> u64 {
     let answer = step.answer;
     let s = step.state;
     state::store(s, bytes);
+    kinphlor::pack(answer)
+}
+
+// Hands the head back through its buffer and the answer as one number.
+fn give_head(made: Made, bytes: &mut [u8]) -> u64 {
+    if bytes.len() != heads::LEN {
+        return NO_STATE;
+    }
+    let answer = made.answer;
+    let h = made.head;
+    heads::store(h, bytes);
     kinphlor::pack(answer)
 }
 
@@ -90,6 +106,52 @@ pub extern "C" fn probe_begin_opener(
 }
 
 #[no_mangle]
+pub extern "C" fn probe_make_head(key: &[u8], header: &[u8], lens: &[u32], head: &mut [u8]) -> u64 {
+    give_head(Head::make(key, header, lens), head)
+}
+
+#[no_mangle]
+pub extern "C" fn probe_extend_head(head: &mut [u8], header: &[u8], lens: &[u32]) -> u64 {
+    if head.len() != heads::LEN {
+        return NO_STATE;
+    }
+    give_head(heads::load(head).extend(header, lens), head)
+}
+
+#[no_mangle]
+pub extern "C" fn probe_begin_sealer_from(
+    head: &[u8],
+    header: &[u8],
+    lens: &[u32],
+    bytes: &mut [u8],
+) -> u64 {
+    if head.len() != heads::LEN {
+        return NO_STATE;
+    }
+    give(
+        Stream::begin_sealer_from(heads::load(head), header, lens),
+        bytes,
+    )
+}
+
+#[no_mangle]
+pub extern "C" fn probe_begin_opener_from(
+    head: &[u8],
+    header: &[u8],
+    lens: &[u32],
+    tag: &[u8],
+    bytes: &mut [u8],
+) -> u64 {
+    if head.len() != heads::LEN {
+        return NO_STATE;
+    }
+    give(
+        Stream::begin_opener_from(heads::load(head), header, lens, tag),
+        bytes,
+    )
+}
+
+#[no_mangle]
 pub extern "C" fn probe_add(bytes: &mut [u8], piece: &[u8]) -> u64 {
     if bytes.len() != state::LEN {
         return NO_STATE;
@@ -147,7 +209,7 @@ pub extern "C" fn probe_seal_pieces(
     n: usize,
     output: &mut [u8],
 ) -> u64 {
-    kinphlor::pack(pieces::seal(key, header, lens, input, n, output))
+    kinphlor::pack(pieces::seal(Stream::begin_sealer(key, header, lens), input, n, output))
 }
 
 // Opens a sealed string by pieces of at most n bytes, n at least 1: the plaintext to the front of output.
@@ -161,4 +223,30 @@ pub extern "C" fn probe_open_pieces(
     output: &mut [u8],
 ) -> u64 {
     kinphlor::pack(pieces::open(key, header, lens, input, n, output))
+}
+
+// Seals input as records of n bytes, all begun from one head: each record's tag and ciphertext behind the last's in output. The head never leaves this call, so that it can be timed.
+#[no_mangle]
+pub extern "C" fn probe_seal_records(
+    key: &[u8],
+    header: &[u8],
+    lens: &[u32],
+    input: &[u8],
+    n: usize,
+    output: &mut [u8],
+) -> u64 {
+    kinphlor::pack(records::run(Head::make(key, header, lens), false, input, n, output))
+}
+
+// Opens sealed strings of records of n bytes, all begun from one head: each record's plaintext behind the last's in output.
+#[no_mangle]
+pub extern "C" fn probe_open_records(
+    key: &[u8],
+    header: &[u8],
+    lens: &[u32],
+    input: &[u8],
+    n: usize,
+    output: &mut [u8],
+) -> u64 {
+    kinphlor::pack(records::run(Head::make(key, header, lens), true, input, n, output))
 }

@@ -7,7 +7,7 @@ use stream::Step;
 use stream::Stream;
 
 // Where the piece of n bytes ends that begins at a place before the end.
-fn piece_end(at: usize, n: usize, end: usize) -> usize
+pub(crate) fn piece_end(at: usize, n: usize, end: usize) -> usize
     requires { ⌜ (at < end) × (1 ≤ n) ⌝ }
     ensures { λ r. ⌜ (at < r) × (r ≤ end) ⌝ }
 {
@@ -17,12 +17,12 @@ fn piece_end(at: usize, n: usize, end: usize) -> usize
     at + n
 }
 
-fn state_of(step: Step) -> Stream {
+pub(crate) fn state_of(step: Step) -> Stream {
     let s = step.state;
     s
 }
 
-fn answer_of(step: Step) -> Answer {
+pub(crate) fn answer_of(step: Step) -> Answer {
     let a = step.answer;
     a
 }
@@ -67,14 +67,8 @@ fn feed_all(s: Stream, input: &[u8], n: usize, output: &mut [u8]) -> Stream
     state
 }
 
-pub(crate) fn seal(
-    key: &[u8],
-    header: &[u8],
-    lens: &[u32],
-    input: &[u8],
-    n: usize,
-    output: &mut [u8],
-) -> Answer {
+// Seals input after a sealer's begin.
+pub(crate) fn seal(begun: Step, input: &[u8], n: usize, output: &mut [u8]) -> Answer {
     if n == 0 {
         return Answer::Refused(Refusal::State);
     }
@@ -84,8 +78,7 @@ pub(crate) fn seal(
     if output.len() - 16 < input.len() {
         return Answer::Refused(Refusal::OutputShort);
     }
-    let begun = state_of(Stream::begin_sealer(key, header, lens));
-    let added = add_all(begun, input, n);
+    let added = add_all(state_of(begun), input, n);
     let turned = state_of(added.turn(output));
     let written = write_all(turned, input, n, output);
     answer_of(written.close())

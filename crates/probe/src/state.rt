@@ -1,73 +1,13 @@
-// A stream state as bytes, field after field in the struct's order, numbers in eight bytes with the lowest first.
+// A stream state as bytes, field after field in the struct's order.
 ghost use mathlib.Core.Path.{_≡_};
 ghost use Prim.Native.Nat.{_+_, _≤_};
 ghost use lib.ListN.{length};
-use aes::RoundKeys;
+use crate::fields;
 use stream::Stream;
 use stream::Tail;
 
 // How many bytes a state has: stage 1, width 8, two times 240, four times 16, total and written 8 each, tail 31.
 pub(crate) const LEN: usize = 600;
-
-// The number of eight bytes, the first the lowest.
-fn join(a: u8, b: u8, c: u8, d: u8, e: u8, f: u8, g: u8, h: u8) -> u64 {
-    a as u64
-        + b as u64 * 256
-        + c as u64 * 65536
-        + d as u64 * 16777216
-        + e as u64 * 4294967296
-        + f as u64 * 1099511627776
-        + g as u64 * 281474976710656
-        + h as u64 * 72057594037927936
-}
-
-// The number at a place.
-fn number_at(s: &[u8], at: usize) -> usize
-    requires { ⌜ at + 8 ≤ length (now s) ⌝ }
-{
-    let n = join(
-        s[at],
-        s[at + 1],
-        s[at + 2],
-        s[at + 3],
-        s[at + 4],
-        s[at + 5],
-        s[at + 6],
-        s[at + 7],
-    );
-    n as usize
-}
-
-// Writes a number at a place.
-fn put_number(s: &mut [u8], at: usize, n: usize)
-    requires { ⌜ at + 8 ≤ length (now s) ⌝ }
-{
-    let bytes = [
-        (n % 256) as u8,
-        (n / 256 % 256) as u8,
-        (n / 65536 % 256) as u8,
-        (n / 16777216 % 256) as u8,
-        (n / 4294967296 % 256) as u8,
-        (n / 1099511627776 % 256) as u8,
-        (n / 281474976710656 % 256) as u8,
-        (n / 72057594037927936 % 256) as u8,
-    ];
-    octets::copy_at(s, at, &bytes);
-}
-
-fn keys_at(s: &[u8], at: usize) -> RoundKeys
-    requires { ⌜ at + 240 ≤ length (now s) ⌝ }
-{
-    let mut keys = [0u8; 240];
-    octets::copy_at(&mut keys, 0, &s[at..at + 240]);
-    keys
-}
-
-fn put_keys(s: &mut [u8], at: usize, keys: RoundKeys)
-    requires { ⌜ at + 240 ≤ length (now s) ⌝ }
-{
-    octets::copy_at(s, at, &keys);
-}
 
 fn tail_at(s: &[u8], at: usize) -> Tail
     requires { ⌜ at + 31 ≤ length (now s) ⌝ }
@@ -89,15 +29,15 @@ pub(crate) fn load(s: &[u8]) -> Stream
 {
     Stream {
         stage: s[0],
-        width: number_at(s, 1),
-        mac_keys: keys_at(s, 9),
-        ctr_keys: keys_at(s, 249),
+        width: fields::number_at(s, 1),
+        mac_keys: fields::keys_at(s, 9),
+        ctr_keys: fields::keys_at(s, 249),
         l: octets::load(s, 489),
         d: octets::load(s, 505),
         chain: octets::load(s, 521),
         v: octets::load(s, 537),
-        total: number_at(s, 553),
-        written: number_at(s, 561),
+        total: fields::number_at(s, 553),
+        written: fields::number_at(s, 561),
         tail: tail_at(s, 569),
     }
 }
@@ -108,8 +48,8 @@ fn store_keys(s: Stream, bytes: &mut [u8])
 {
     let mac_keys = s.mac_keys;
     let ctr_keys = s.ctr_keys;
-    put_keys(bytes, 9, mac_keys);
-    put_keys(bytes, 249, ctr_keys);
+    fields::put_keys(bytes, 9, mac_keys);
+    fields::put_keys(bytes, 249, ctr_keys);
 }
 
 // Writes its blocks.
@@ -132,9 +72,9 @@ fn store_numbers(s: Stream, bytes: &mut [u8])
 {
     let stage = [s.stage];
     octets::copy_at(bytes, 0, &stage);
-    put_number(bytes, 1, s.width);
-    put_number(bytes, 553, s.total);
-    put_number(bytes, 561, s.written);
+    fields::put_number(bytes, 1, s.width);
+    fields::put_number(bytes, 553, s.total);
+    fields::put_number(bytes, 561, s.written);
 }
 
 // Writes a state's bytes.
