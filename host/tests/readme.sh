@@ -15,6 +15,8 @@ fail() {
 
 block c | diff - host/c/example.c || fail 'the example in C is not host/c/example.c'
 block rust | diff - host/rust/example.rs || fail 'the example in Rust is not host/rust/example.rs'
+[ -n "$(block rattle)" ] || fail 'no example in Rattle'
+[[ "$(cat crates/wall_unit/src/main.rt)" == *"$(block rattle)"* ]] || fail 'the example in Rattle is no part of crates/wall_unit/src/main.rt'
 [ -n "$(block text)" ] || fail 'no piece of the demo'
 [[ "$(cat "$1")" == *"$(block text)"* ]] || fail "the demo does not print README's piece of it"
 echo 'readme: its examples are the files, and its piece of the demo is what the demo prints'

@@ -1,4 +1,4 @@
--- A prepared head on every input: number, length and the head, from slip 2 of document 02. RFC 5297 2.4 goes through the header strings in order, so D over the first ones can be kept.
+-- A prepared head on every input: number, length and the head, from slip 2 of document 02; RFC 5297 2.4 takes the strings in order, so D over the first can be kept (source document 004, section 4).
 -- Assumes nothing.
 use mathlib.Core.Path.{_≡_}
 use mathlib.Core.Bool.{Bool, not, cond, _&&_}
