@@ -116,53 +116,46 @@ fn refused_heads() {
         b"  key of 31 bytes",
         Head::make(&key[0..31], &header, &lens),
     );
-    show_made(b"  127 strings", Head::make(&key, &header[0..0], &empty));
+    show_made(b"  127 strings", Head::make(&key, &[], &empty));
     show_made(
         b"  lengths that do not sum to the header",
         Head::make(&key, &header, &lens[0..2]),
     );
     show_made(
         b"  126 strings behind one",
-        head_of(1).extend(&header[0..0], &empty[0..126]),
+        head_of(1).extend(&[], &empty[0..126]),
     );
 }
 
-// Begins from heads: what 9 judges of one, and the rows behind it.
-fn refused_begins() {
-    let header = A2_HEADER;
-    let lens = A2_LENS;
-    let empty = [0u32; 126];
-    let tag = [0u8; 15];
+// Heads that no call gives: the two things that 9 judges, and one that is used as it is.
+fn spoiled_heads() {
     let mut h = head_of(3);
     h.width = 20;
-    show(b"  key width 20", begin(h, &header[0..0], &empty[0..0]));
+    show(b"  key width 20", begin(h, &[], &[]));
     let mut h = head_of(3);
     h.count = 127;
-    show(
-        b"  127 strings in the head",
-        begin(h, &header[0..0], &empty[0..0]),
-    );
-    show(
-        b"  126 strings behind one",
-        begin(head_of(1), &header[0..0], &empty),
-    );
+    show(b"  127 strings in the head", begin(h, &[], &[]));
+    let mut h = head_of(3);
+    h.d = [0xffu8; 16];
+    show(b"  another D, which is used as it is", begin(h, &[], &[]));
+}
+
+// Strings behind a head, and a tag, that begin refuses.
+fn refused_rests() {
+    let empty = [0u32; 126];
+    let tag = [0u8; 15];
+    show(b"  126 strings behind one", begin(head_of(1), &[], &empty));
     show(
         b"  125 strings behind one",
-        begin(head_of(1), &header[0..0], &empty[0..125]),
+        begin(head_of(1), &[], &empty[0..125]),
     );
     show(
         b"  lengths that do not sum to the rest",
-        begin(head_of(1), &header[40..], &lens[2..]),
+        begin(head_of(1), &tag, &[10]),
     );
     show(
         b"  tag of 15 bytes",
-        Stream::begin_opener_from(head_of(3), &header[0..0], &empty[0..0], &tag),
-    );
-    let mut h = head_of(3);
-    h.d = [0xffu8; 16];
-    show(
-        b"  another D, which is used as it is",
-        begin(h, &header[0..0], &empty[0..0]),
+        Stream::begin_opener_from(head_of(3), &[], &[], &tag),
     );
 }
 
@@ -175,6 +168,8 @@ pub(crate) fn run() {
     by_head(3);
     printer::text(b"refused heads\n");
     refused_heads();
-    printer::text(b"begins from heads\n");
-    refused_begins();
+    printer::text(b"spoiled heads\n");
+    spoiled_heads();
+    printer::text(b"begins from a head\n");
+    refused_rests();
 }
