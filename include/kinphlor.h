@@ -77,7 +77,7 @@ enum kinphlor_answer {
     KINPHLOR_OUTPUT_SHORT = 6,   /* output too short */
     KINPHLOR_SCRATCH_SHORT = 7,  /* scratch too short */
     KINPHLOR_FORGED = 8,         /* not sealed under this header and key (or a key of the ring): damaged or forged */
-    KINPHLOR_STATE = 9,          /* a stream state that is not one for the call; never from these functions */
+    KINPHLOR_STATE = 9,          /* a stream state or a head that is not one for the call; never from these functions */
     KINPHLOR_EMPTY_NONCE = 10,   /* nonce_len is 0 */
     KINPHLOR_RING_LENGTH = 11    /* ring_len is not one to four times key_len; from kinphlor_open_ring alone */
 };
@@ -118,7 +118,7 @@ static inline const char *kinphlor_text(uint32_t number) {
     case KINPHLOR_OUTPUT_SHORT: return "the output is too short";
     case KINPHLOR_SCRATCH_SHORT: return "the scratch is too short";
     case KINPHLOR_FORGED: return "the record is damaged or forged";
-    case KINPHLOR_STATE: return "the stream state is not one for this call";
+    case KINPHLOR_STATE: return "the stream state or the head is not one for this call";
     case KINPHLOR_EMPTY_NONCE: return "the nonce is empty";
     case KINPHLOR_RING_LENGTH: return "the ring is not one to four whole keys";
     default: return "unknown answer";

@@ -150,7 +150,7 @@ pub fn spoiled(Pieces { peers, random, noise, .. }: &mut Pieces) {
             head
         };
         let with_count = |&count: &u64| Head { count, ..good.clone() };
-        let judged = spoiled::WIDTHS.iter().map(with_width).chain(COUNTS.iter().map(with_count)).chain([Head::ZERO]);
+        let judged = spoiled::ANY_WIDTHS.iter().map(with_width).chain(COUNTS.iter().map(with_count)).chain([Head::ZERO]);
         let mut accepted = 0;
         for head in judged {
             for rest in rests(head.count) {

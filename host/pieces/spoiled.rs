@@ -16,7 +16,7 @@ use std::collections::{BTreeMap, BTreeSet};
 
 const TOTALS: [usize; 11] = [0, 1, 15, 16, 17, 31, 32, 33, 47, 48, 100];
 /// Key widths, and numbers that are none.
-pub const WIDTHS: [u64; 20] = [
+pub const ANY_WIDTHS: [u64; 20] = [
     0, 1, 8, 15, 16, 17, 23, 24, 25, 31, 32, 33, 48, 64, 255, 256 + 16, (1 << 32) + 16, (1 << 32) + 24, (1 << 63) + 32,
     u64::MAX,
 ];
@@ -93,7 +93,7 @@ fn spoiled_states(random: &mut Random, good: &State) -> Vec<(Option<Field>, Stat
     let writtens = [0, 1, total, total + 1, total + 16, LIMIT as u64 + 1, (1 << 32) + written];
     let numbers = [
         (Field::Stage, (0..256).collect()),
-        (Field::Width, WIDTHS.to_vec()),
+        (Field::Width, ANY_WIDTHS.to_vec()),
         (Field::Total, [&totals[..], &big].concat()),
         (Field::Written, [&writtens[..], &big].concat()),
     ];

@@ -1,7 +1,7 @@
 -- The first demand holds.
 -- Assumes nothing.
 use mathlib.Core.Path.{_≡_, refl, ap, ap₂, sym, subst, _∙_}
-use mathlib.Core.Bool.{Bool, true, false, not, false≢true, cond, _&&_}
+use mathlib.Core.Bool.{Bool, true, false, not, cond, _&&_}
 use mathlib.Core.List.{List, [], _∷_, _++_}
 use Prim.Native.Nat.{ℕ, pred, _<_}
 use native.Mathlib.Decide.{ℕ-discrete}
@@ -189,57 +189,52 @@ module _ (keyLength : ℕ) (ring bytes lens input output scratch : List ℕ) whe
           slotless = λ m. chosen-closed _ count g (ne-eqb _ 0 m);
         }
 
--- ---- a head
+-- ---- heads and piecewise calls
+
+-- a result that is complete where a number is 0, and the number's refusal else
+record Settled {R : Type 0} (n given : ℕ) (result complete : R) (refusal : ℕ → R) : Type 0 where
+  number : given ≡ n
+  done : n ≡ 0 → result ≡ complete
+  refused : (m : ℕ) → n ≡ m → (m ≡ 0 → ⊥) → result ≡ refusal m
+
+settled : {R : Type 0} (numberIn : R → ℕ) (n : ℕ) (complete : R) (refusal : ℕ → R) → numberIn complete ≡ 0 → ((m : ℕ) → numberIn (refusal m) ≡ m)
+    → Settled n (numberIn (cond (eqb n 0) complete (refusal n))) (cond (eqb n 0) complete (refusal n)) complete refusal
+settled numberIn n complete refusal z named =
+    record {
+      number = go (eqb n 0) refl;
+      done = λ e. ap (λ (t : Bool). cond t complete (refusal n)) (eq-eqb n 0 e);
+      refused = λ m e k. ap (λ (t : Bool). cond t complete (refusal n)) (ne-eqb n 0 (λ p. k (sym e ∙ p))) ∙ ap refusal e;
+    }
+  where
+    go : (t : Bool) → eqb n 0 ≡ t → numberIn (cond t complete (refusal n)) ≡ n
+    go true e = z ∙ sym (eqb-true n 0 e)
+    go false e = named n
 
 by-head : (table : List Row) (h : Head) → keeps order table ≡ true → FirstHead table (settleHead (first table) h) h
-by-head table h k = go (eqb (first table) 0) refl
-  where
-    made : Bool → MakeResult
-    made t = cond t (record { outcome = success 0; head = h }) (record { outcome = withoutLength (first table); head = zeroHead })
+by-head table h k =
+    let t = settled (λ (r : MakeResult). r .outcome .number) (first table) (record { outcome = success 0; head = h }) (λ n. record { outcome = withoutLength n; head = zeroHead }) refl (λ n. refl) in
+    record {
+      ordered = k;
+      first = subst (FirstDue table) (sym (t .number)) (first-due table);
+      done = λ e. t .done (sym (t .number) ∙ e);
+      refused = λ n e. t .refused n (sym (t .number) ∙ e);
+    }
 
-    go : (t : Bool) → eqb (first table) 0 ≡ t → FirstHead table (made t) h
-    go true e =
-        record {
-          ordered = k;
-          first = subst (FirstDue table) (eqb-true (first table) 0 e) (first-due table);
-          done = λ z. refl;
-          refused = λ n z m. absurd (m (sym z));
-        }
-    go false e =
-        record {
-          ordered = k;
-          first = first-due table;
-          done = λ z. absurd (false≢true (sym e ∙ eq-eqb (first table) 0 z));
-          refused = λ n z m. ap (λ (x : ℕ). record { outcome = withoutLength x; head = zeroHead }) z;
-        }
-
--- ---- piecewise calls
-
-module _ (n : ℕ) (done : StepResult) (s : Stream) (output : List ℕ) (z : done .outcome .number ≡ 0) where
-  settled-number : settle n done s output .outcome .number ≡ n
-  settled-number = go (eqb n 0) refl
-    where
-      go : (t : Bool) → eqb n 0 ≡ t → cond t done (refusedStep n s output) .outcome .number ≡ n
-      go true e = z ∙ sym (eqb-true n 0 e)
-      go false e = refl
-
-  settled-done : n ≡ 0 → settle n done s output ≡ done
-  settled-done e = ap (λ (t : Bool). cond t done (refusedStep n s output)) (eq-eqb n 0 e)
-
-  settled-refused : (m : ℕ) → n ≡ m → (m ≡ 0 → ⊥) → settle n done s output ≡ refusedStep m s output
-  settled-refused m e k =
-      ap (λ (t : Bool). cond t done (refusedStep n s output)) (ne-eqb n 0 (λ p. k (sym e ∙ p))) ∙ ap (λ (k : ℕ). refusedStep k s output) e
+-- a step that a number settles
+step-settled : (n : ℕ) (done : StepResult) (s : Stream) (output : List ℕ) → done .outcome .number ≡ 0
+    → Settled n (settle n done s output .outcome .number) (settle n done s output) done (λ m. refusedStep m s output)
+step-settled n done s output z = settled (λ (r : StepResult). r .outcome .number) n done (λ m. refusedStep m s output) z (λ m. refl)
 
 -- a call whose table gives its number
 by-table : (table : List Row) (done : StepResult) (s : Stream) (output : List ℕ) → keeps order table ≡ true → done .outcome .number ≡ 0
     → FirstStep table (settle (first table) done s output) done s output
 by-table table done s output k z =
-    let number : settle (first table) done s output .outcome .number ≡ first table = settled-number (first table) done s output z in
+    let t = step-settled (first table) done s output z in
     record {
       ordered = k;
-      first = subst (FirstDue table) (sym number) (first-due table);
-      done = λ e. settled-done (first table) done s output z (sym number ∙ e);
-      refused = λ m e. settled-refused (first table) done s output z m (sym number ∙ e);
+      first = subst (FirstDue table) (sym (t .number)) (first-due table);
+      done = λ e. t .done (sym (t .number) ∙ e);
+      refused = λ n e. t .refused n (sym (t .number) ∙ e);
     }
 
 finishing : (s : Stream) (output : List ℕ) → FirstFinish s output
@@ -253,10 +248,10 @@ finishing s output =
       first = subst (FirstDue (finishTable s output)) (sym number) (first-due (finishTable s output));
       done = λ e.
           let zero : n ≡ 0 = sym number ∙ e in
-          ap (λ (t : Bool). cond t (forged s output) (settle n done s output)) (ne-eqb n 8 (λ p. omega (arith, p, zero))) ∙ settled-done n done s output refl zero;
+          ap (λ (t : Bool). cond t (forged s output) (settle n done s output)) (ne-eqb n 8 (λ p. omega (arith, p, zero))) ∙ step-settled n done s output refl .done zero;
       forged = λ e. ap (λ (t : Bool). cond t (forged s output) (settle n done s output)) (eq-eqb n 8 (sym number ∙ e));
       refused = λ m e k k8.
-          ap (λ (t : Bool). cond t (forged s output) (settle n done s output)) (ne-eqb n 8 (λ p. k8 (sym e ∙ number ∙ p))) ∙ settled-refused n done s output refl m (sym number ∙ e) k;
+          ap (λ (t : Bool). cond t (forged s output) (settle n done s output)) (ne-eqb n 8 (λ p. k8 (sym e ∙ number ∙ p))) ∙ step-settled n done s output refl .refused m (sym number ∙ e) k;
     }
   where
     forged : Stream → List ℕ → StepResult
@@ -265,7 +260,7 @@ finishing s output =
     go : (t : Bool) → eqb (first (finishTable s output)) 8 ≡ t
         → cond t (forged s output) (settle (first (finishTable s output)) (doneStep (s .total) ended output) s output) .outcome .number ≡ first (finishTable s output)
     go true e = sym (eqb-true (first (finishTable s output)) 8 e)
-    go false e = settled-number (first (finishTable s output)) (doneStep (s .total) ended output) s output refl
+    go false e = step-settled (first (finishTable s output)) (doneStep (s .total) ended output) s output refl .number
 
 -- a refusal by its number
 refusal : ℕ → Refusal

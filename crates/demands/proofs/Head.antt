@@ -21,22 +21,20 @@ use Rattle.head.specs.Head.{headOf, extended, fitsHead, restRows, MakeResult, s
 use Rattle.head.proofs.Laws.{extended-head}
 use Rattle.stream.specs.Steps.{tagRows, beginBy, beginSealer, beginOpener, beginSealerFrom, beginOpenerFrom}
 use Rattle.demands.specs.Head.{Split, Heads}
-use Rattle.demands.specs.Run.{Begin, sealer, opener, undivided, divided, begunFrom, restBytes, begun}
+use Rattle.demands.specs.Run.{Begin, sealer, opener, undivided, begunFrom, restBytes, begun}
 use Rattle.demands.specs.Whole.{Admits}
 
 -- no refusal is due for an admitted key and list
 pub admitted : (key bytes lens : List ℕ) → Admits key bytes lens → first (headerRows (length key) lens (length bytes)) ≡ 0
 admitted key bytes lens a = simp (a .keyed, le-ltb 126 (length lens) (a .few), eq-eqb (total lens) (length bytes) (a .listed))
 
--- the head of an admitted list, and what follows it
+-- so its head is made
+made : (key bytes lens : List ℕ) → Admits key bytes lens → makeHead key bytes lens ≡ record { outcome = success 0; head = headOf key (strings bytes lens) }
+unfolding makeHead
+made key bytes lens a = ap (λ (n : ℕ). settleHead n (headOf key (strings bytes lens))) (admitted key bytes lens a)
+
+-- and what follows it
 module _ (key bytes lens more moreLens : List ℕ) (a : Admits key bytes lens) where
-  h : Head
-  h = headOf key (strings bytes lens)
-
-  made : makeHead key bytes lens ≡ record { outcome = success 0; head = h }
-  unfolding makeHead h
-  made = ap (λ (n : ℕ). settleHead n (headOf key (strings bytes lens))) (admitted key bytes lens a)
-
   -- the strings of both are those of the joined list
   joined : strings bytes lens ++ strings more moreLens ≡ strings (bytes ++ more) (lens ++ moreLens)
   joined =
@@ -46,15 +44,14 @@ module _ (key bytes lens more moreLens : List ℕ) (a : Admits key bytes lens) w
       (sym (strings-within (bytes ++ more) lens) ∙ ap (λ (l : List ℕ). strings l lens) (take-at bytes more (total lens) (sym (a .listed))))
       (drop-at bytes more (total lens) (sym (a .listed))))
 
-  same-head : extended h (strings more moreLens) ≡ headOf key (strings (bytes ++ more) (lens ++ moreLens))
-  unfolding h
+  same-head : extended (headOf key (strings bytes lens)) (strings more moreLens) ≡ headOf key (strings (bytes ++ more) (lens ++ moreLens))
   same-head = extended-head key (strings bytes lens) (strings more moreLens) ∙ ap (headOf key) joined
 
   -- and the same refusal is due, or none
-  same-number : first (restRows h moreLens (length more)) ≡ first (headerRows (length key) (lens ++ moreLens) (length (bytes ++ more)))
-  unfolding fitsHead headOf h
+  same-number : first (restRows (headOf key (strings bytes lens)) moreLens (length more)) ≡ first (headerRows (length key) (lens ++ moreLens) (length (bytes ++ more)))
+  unfolding fitsHead headOf
   same-number =
-      let counted : h .count + length moreLens ≡ length (lens ++ moreLens) = omega (arith, length-strings bytes lens, length-append lens moreLens) in
+      let counted : length (strings bytes lens) + length moreLens ≡ length (lens ++ moreLens) = omega (arith, length-strings bytes lens, length-append lens moreLens) in
       let few : ltb 126 (length (strings bytes lens)) ≡ false = le-ltb 126 (length (strings bytes lens)) (omega (arith, length-strings bytes lens, a .few)) in
       simp (halves (length key) (a .keyed) .half, few, a .keyed)
       (ap₂ (λ (n : ℕ) (t : Bool). cond (ltb 126 n) 2 (cond (not t) 3 0)) counted listed)
@@ -71,20 +68,20 @@ module _ (key bytes lens more moreLens : List ℕ) (a : Admits key bytes lens) w
   joins : (begin : Begin) → begunFrom (makeHead key bytes lens .head) more moreLens begin ≡ begun key (bytes ++ more) (lens ++ moreLens) undivided begin
   unfolding beginSealer beginOpener beginSealerFrom beginOpenerFrom
   joins sealer =
-      ap (λ (r : MakeResult). beginSealerFrom (r .head) more moreLens) made
+      ap (λ (r : MakeResult). beginSealerFrom (r .head) more moreLens) (made key bytes lens a)
       ∙ ap₂ (λ (n : ℕ) (g : Head). beginBy n g 1 zeros) same-number same-head
   joins (opener T) =
       let tag : List Row = tagRows (length T) in
-      ap (λ (r : MakeResult). beginOpenerFrom (r .head) more moreLens T) made
+      ap (λ (r : MakeResult). beginOpenerFrom (r .head) more moreLens T) (made key bytes lens a)
       ∙ ap₂ (λ (n : ℕ) (g : Head). beginBy n g 3 T)
-      (first-append (restRows h moreLens (length more)) tag refl
+      (first-append (restRows (headOf key (strings bytes lens)) moreLens (length more)) tag refl
       ∙ ap (λ (n : ℕ). cond (eqb n 0) (first tag) n) same-number
       ∙ sym (first-append (headerRows (length key) (lens ++ moreLens) (length (bytes ++ more))) tag refl))
       same-head
 
   extends : extendHead (makeHead key bytes lens .head) more moreLens ≡ makeHead key (bytes ++ more) (lens ++ moreLens)
   unfolding extendHead makeHead
-  extends = ap (λ (r : MakeResult). extendHead (r .head) more moreLens) made ∙ ap₂ settleHead same-number same-head
+  extends = ap (λ (r : MakeResult). extendHead (r .head) more moreLens) (made key bytes lens a) ∙ ap₂ settleHead same-number same-head
 
 -- a list that is divided is what it is joined from
 module _ (key bytes lens : List ℕ) (a : Admits key bytes lens) (n : ℕ) where
@@ -110,7 +107,7 @@ module _ (key bytes lens : List ℕ) (a : Admits key bytes lens) (n : ℕ) where
   unfolding front
   split =
       record {
-        made = ap (λ (r : MakeResult). r .outcome) (made key front (take n lens) (restBytes key bytes lens n) (drop n lens) front-admitted);
+        made = ap (λ (r : MakeResult). r .outcome) (made key front (take n lens) front-admitted);
         begins = λ begin.
             joins key front (take n lens) (restBytes key bytes lens n) (drop n lens) front-admitted begin ∙ whole (λ b l. begun key b l undivided begin);
         extends = extends key front (take n lens) (restBytes key bytes lens n) (drop n lens) front-admitted ∙ whole (makeHead key);

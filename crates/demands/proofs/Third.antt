@@ -13,16 +13,16 @@ use Rattle.octets.specs.Octets.{xors, put}
 use Rattle.octets.proofs.Strings.{take-put}
 use Rattle.aes.specs.Aes.{aes}
 use Rattle.cmac.specs.Cmac.{zeros}
-use Rattle.header.specs.Header.{total, strings}
+use Rattle.header.specs.Header.{strings}
 use Rattle.ctr.specs.Counter.{xorStream}
 use Rattle.siv.specs.Answer.{Outcome, withoutLength}
-use Rattle.siv.specs.Calls.{limit, scratchNeed, openCall}
+use Rattle.siv.specs.Calls.{limit, scratchNeed, headerRows, openCall}
 use Rattle.siv.specs.Siv.{ctrKey, tagOf, streamed, sealed, opened, genuine}
-use Rattle.siv.proofs.Laws.{openJudged, length-streamed, length-opened}
+use Rattle.siv.proofs.Laws.{first-pass, openJudged, length-streamed, length-opened}
 use Rattle.head.specs.Head.{headOf}
 use Rattle.stream.specs.declared.Stream.{Stream}
 use Rattle.stream.specs.State.{ended}
-use Rattle.stream.specs.Steps.{StepResult, doneStep, beginBy, beginSealer, beginOpener}
+use Rattle.stream.specs.Steps.{StepResult, doneStep, tagRows, beginBy, beginSealer, beginOpener}
 use Rattle.demands.specs.Model.{ModelState, After, fresh, wants, wholeAccepts, outputBefore, modelNumber, modelStep, modelRun}
 use Rattle.demands.specs.Run.{Begin, sealer, opener, Start, undivided, divided, Call, add, turn, write, close, feed, finish, begun, Entry, run}
 use Rattle.demands.specs.Third.{onePiece, gaveBy, gave, noFinish, AsModel, AsSealed, fed, AsOpened, ThirdDemand}
@@ -63,8 +63,10 @@ module _ (key bytes lens : List ℕ) (a : Admits key bytes lens) where
   unfolding beginOpener
   opener-begins start T t =
       from start (opener T)
-      ∙ simp (a .keyed, le-ltb 126 (length lens) (a .few), eq-eqb (total lens) (length bytes) (a .listed), eq-eqb (length T) 16 t)
-      (ap (λ (s : Stream). doneStep 0 s []) (begin-state key (strings bytes lens) 3 T))
+      ∙ ap (λ (n : ℕ). beginBy n (headOf key (strings bytes lens)) 3 T)
+      (first-pass (headerRows (length key) lens (length bytes)) (tagRows (length T)) refl (admitted key bytes lens a)
+      ∙ ap (λ (b : Bool). cond (not b) 5 0) (eq-eqb (length T) 16 t))
+      ∙ ap (λ (s : Stream). doneStep 0 s []) (begin-state key (strings bytes lens) 3 T)
 
   module _ (shared : List ℕ) where
     sealer-known : (start : Start) → Known key bytes lens shared sealer (fresh sealer) (begun key bytes lens start sealer .state) shared
@@ -132,14 +134,15 @@ module _ (key bytes lens : List ℕ) (a : Admits key bytes lens) where
             ∙ sym (known-state begin _ _ _ (runs begin (onePiece b) (fresh begin) s₀ shared k₀ .1))
 
     as-model : (start : Start) (begin : Begin) (s : Stream) → begun key bytes lens start begin ≡ doneStep 0 s []
-        → Known key bytes lens shared begin (fresh begin) (begun key bytes lens start begin .state) shared → (calls : List Call) → AsModel key bytes lens begin shared calls start
+        → ((start : Start) → Known key bytes lens shared begin (fresh begin) (begun key bytes lens start begin .state) shared) → (calls : List Call)
+        → AsModel key bytes lens begin shared calls start
     as-model start begin s e k calls =
-        let r = runs begin calls (fresh begin) (begun key bytes lens start begin .state) shared k in
+        let r = runs begin calls (fresh begin) (begun key bytes lens start begin .state) shared (k start) in
         record {
           begins = ap (λ (r : StepResult). r .outcome) e;
           entries = r .0;
           output = known-shown key bytes lens shared a begin _ _ _ (r .1);
-          state = as-one-piece begin (begun key bytes lens start begin .state) k _ _ _ (r .1);
+          state = as-one-piece begin (begun key bytes lens undivided begin .state) (k undivided) _ _ _ (r .1);
         }
 
     -- ---- what turn and the writes gave
@@ -400,9 +403,9 @@ pub accepts-the-sealed-and-follows-the-model : ThirdDemand
 accepts-the-sealed-and-follows-the-model key bytes lens a =
     record {
       whole = λ y output scratch. accepts-the-sealed key bytes lens y output scratch a;
-      sealers = λ start shared. as-model key bytes lens a shared start sealer _ (sealer-begins key bytes lens a start) (sealer-known key bytes lens a shared start);
+      sealers = λ start shared. as-model key bytes lens a shared start sealer _ (sealer-begins key bytes lens a start) (sealer-known key bytes lens a shared);
       openers = λ start T shared calls t.
-          as-model key bytes lens a shared start (opener T) _ (opener-begins key bytes lens a start T t) (opener-known key bytes lens a shared start T t) calls;
+          as-model key bytes lens a shared start (opener T) _ (opener-begins key bytes lens a start T t) (λ begun. opener-known key bytes lens a shared begun T t) calls;
       seals = λ start shared. as-sealed key bytes lens a shared start;
       opens = λ start T shared calls output scratch t. as-opened key bytes lens a shared T t start calls output scratch;
     }

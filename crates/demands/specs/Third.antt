@@ -14,7 +14,7 @@ use Rattle.siv.specs.Siv.{streamed, sealed}
 use Rattle.stream.specs.State.{ended}
 use Rattle.stream.specs.Steps.{StepResult, finishStep}
 use Rattle.demands.specs.Model.{ModelState, fresh, ModelRun, sealTag, shown, modelRun}
-use Rattle.demands.specs.Run.{Begin, sealer, opener, Start, Call, add, turn, write, close, feed, finish, begun, Entry, Run, run}
+use Rattle.demands.specs.Run.{Begin, sealer, opener, Start, undivided, Call, add, turn, write, close, feed, finish, begun, Entry, Run, run}
 use Rattle.demands.specs.Whole.{Admits, ThirdWhole}
 
 -- the same bytes in one piece: one add of A in stage 1; one add of A, turn and one write of W in stage 2; one feed of A in stage 3
@@ -65,9 +65,9 @@ module _ (key bytes lens : List ℕ) where
         -- all numbers, lengths and output bytes are the model's
         pub entries : ran .entries ≡ expected .entries
         pub output : ran .shared ≡ shown key bytes lens begin shared (expected .model)
-        -- the state is that of the same bytes given in one piece; in stage 0 it is all zero
+        -- the state is that of the same bytes given in one piece, after the begin from the whole list; in stage 0 it is all zero
         pub state : ran .state
-            ≡ cond (eqb (expected .model .stage) 0) ended (run (begun key bytes lens start begin .state) shared (onePiece (expected .model)) .state)
+            ≡ cond (eqb (expected .model .stage) 0) ended (run (begun key bytes lens undivided begin .state) shared (onePiece (expected .model)) .state)
 
   -- a sealer's list of calls
   module _ (shared : List ℕ) (calls : List Call) where

@@ -20,11 +20,11 @@ use Rattle.s2v.specs.S2v.{absorbStrings, headerResult}
 use Rattle.s2v.proofs.Laws.{absorb-append}
 use Rattle.siv.specs.declared.Answer.{Answer}
 use Rattle.siv.specs.declared.Answer.the-variants.{Ok}
-use Rattle.siv.specs.Answer.{Outcome, first, outcomeOf, withoutLength}
+use Rattle.siv.specs.Answer.{Outcome, first, outcomeOf, success, withoutLength}
 use Rattle.siv.specs.Siv.{macKey, ctrKey}
 use Rattle.siv.proofs.Laws.{not-due}
 use Rattle.head.specs.declared.Head.{Head}
-use Rattle.head.specs.Head.{zeroHead, headOf, extended, fitsHead, restRows, DidMake, settleHead}
+use Rattle.head.specs.Head.{zeroHead, headOf, extended, fitsHead, restRows, MakeResult, DidMake, settleHead}
 
 -- ---- the heads that the code puts together
 
@@ -90,31 +90,37 @@ fit h e =
     let a = and-eq-true-iff (isWidth (h .width)) (not (ltb 126 (h .count))) .0 e in
     record { width = width (h .width) (a .0) .high; few = ltb-false 126 (h .count) (not-true (ltb 126 (h .count)) (a .1)) }
 
-pub record RestAdmits (h : Head) (lens : List ℕ) (headerLength : ℕ) : Type 0 where
+pub record RestAdmits (h : Head) (lens : List ℕ) (restLength : ℕ) : Type 0 where
   pub width : h .width ≤ 32
   pub few : h .count + length lens ≤ 126
-  pub listed : total lens ≡ headerLength
+  pub listed : total lens ≡ restLength
 
-pub rest-admits : (h : Head) (lens : List ℕ) (headerLength : ℕ) → first (restRows h lens headerLength) ≡ 0 → RestAdmits h lens headerLength
-rest-admits h lens headerLength e =
+pub rest-admits : (h : Head) (lens : List ℕ) (restLength : ℕ) → first (restRows h lens restLength) ≡ 0 → RestAdmits h lens restLength
+rest-admits h lens restLength e =
     let a = not-due (not (fitsHead h)) 8 _ e in
     let b = not-due (ltb 126 (h .count + length lens)) 1 _ (a .1) in
-    let c = not-due (not (eqb (total lens) headerLength)) 2 0 (b .1) in
+    let c = not-due (not (eqb (total lens) restLength)) 2 0 (b .1) in
     record {
       width = fit h (not-false (fitsHead h) (a .0)) .width;
       few = ltb-false 126 (h .count + length lens) (b .0);
-      listed = eqb-true (total lens) headerLength (not-false (eqb (total lens) headerLength) (c .0));
+      listed = eqb-true (total lens) restLength (not-false (eqb (total lens) restLength) (c .0));
     }
 
 -- ---- the calls' results
 
 module _ (n : ℕ) (h : Head) where
+  pub settle-made : n ≡ 0 → settleHead n h ≡ record { outcome = success 0; head = h }
+  settle-made e = simp (eq-eqb n 0 e)
+
+  pub settle-refused : (n ≡ 0 → ⊥) → settleHead n h ≡ record { outcome = withoutLength n; head = zeroHead }
+  settle-refused z = simp (ne-eqb n 0 z)
+
   pub make-refused : (a : Answer) {z : Head} → (outcomeOf a .number ≡ 0 → ⊥) → outcomeOf a ≡ withoutLength n → z ≡ zeroHead → DidMake (settleHead n h) (record { answer = a; head = z })
   make-refused a k e z =
-      let off = ne-eqb n 0 (λ p. k (ap (λ (o : Outcome). o .number) e ∙ p)) in
-      record { outcome = simp off e; head = simp off z }
+      let r = settle-refused (λ p. k (ap (λ (o : Outcome). o .number) e ∙ p)) in
+      record { outcome = e ∙ sym (ap (λ (m : MakeResult). m .outcome) r); head = z ∙ sym (ap (λ (m : MakeResult). m .head) r) }
 
   pub make-done : {g : Head} → n ≡ 0 → g ≡ h → DidMake (settleHead n h) (record { answer = Ok 0; head = g })
   make-done e g =
-      let on = eq-eqb n 0 e in
-      record { outcome = simp on; head = simp on g }
+      let r = settle-made e in
+      record { outcome = sym (ap (λ (m : MakeResult). m .outcome) r); head = g ∙ sym (ap (λ (m : MakeResult). m .head) r) }

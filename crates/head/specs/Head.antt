@@ -62,8 +62,8 @@ fitsHead h = isWidth (h .width) && not (ltb 126 (h .count))
 
 -- the refusals that judge a head and the strings that follow its own; 126 bounds both together
 abbrev pub restRows : Head → List ℕ → ℕ → List Row
-restRows h lens headerLength =
-    row 9 (not (fitsHead h)) ∷ row 2 (ltb 126 (h .count + length lens)) ∷ row 3 (not (eqb (total lens) headerLength)) ∷ []
+restRows h lens restLength =
+    row 9 (not (fitsHead h)) ∷ row 2 (ltb 126 (h .count + length lens)) ∷ row 3 (not (eqb (total lens) restLength)) ∷ []
 
 -- everything that making a head does
 pub record MakeResult : Type 0 where

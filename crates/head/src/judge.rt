@@ -17,8 +17,8 @@ fn fits(head: Head) -> bool
 }
 
 // The refusals of a head and the strings that follow its own.
-pub fn judge_rest(head: Head, lens: &[u32], header_len: usize) -> Answer
-    ensures { λ r. ⌜ outcomeOf r ≡ withoutLength (first (restRows head (now (lens .entry)) «header_len»)) ⌝ }
+pub fn judge_rest(head: Head, lens: &[u32], rest_len: usize) -> Answer
+    ensures { λ r. ⌜ outcomeOf r ≡ withoutLength (first (restRows head (now (lens .entry)) «rest_len»)) ⌝ }
 {
     if !fits(head) {
         return Answer::Refused(Refusal::State);
@@ -26,7 +26,7 @@ pub fn judge_rest(head: Head, lens: &[u32], header_len: usize) -> Answer
     if header::MOST - head.count < lens.len() {
         return Answer::Refused(Refusal::HeaderCount);
     }
-    if header::sums_to(lens, header_len) {
+    if header::sums_to(lens, rest_len) {
         return Answer::Ok(0);
     }
     Answer::Refused(Refusal::HeaderLengths)

@@ -7,7 +7,7 @@ use aes::RoundKeys;
 use octets::Block;
 use siv::Answer;
 
-// A head. Only `make` and `extend` give one that means anything; of any other, width and count are judged and the rest is used as it is.
+// A head. Whatever its fields hold, a call that takes one judges width and count, and uses the others as they are.
 pub struct Head {
     // The length of one half of the key.
     pub width: usize,
@@ -48,10 +48,10 @@ impl Head {
     }
 
     // The head with the next strings of its header list.
-    pub fn extend(self, header: &[u8], lens: &[u32]) -> Made
-        ensures { λ r. ⌜ DidMake (extendHead self (now (header .entry)) (now (lens .entry))) r ⌝ }
+    pub fn extend(self, rest: &[u8], lens: &[u32]) -> Made
+        ensures { λ r. ⌜ DidMake (extendHead self (now (rest .entry)) (now (lens .entry))) r ⌝ }
     {
-        let answer = judge::judge_rest(self, lens, header.len());
+        let answer = judge::judge_rest(self, lens, rest.len());
         if let Answer::Refused(_) = answer {
             return Made {
                 answer,
@@ -60,7 +60,7 @@ impl Head {
         }
         Made {
             answer: Answer::Ok(0),
-            head: work::extended(self, header, lens),
+            head: work::extended(self, rest, lens),
         }
     }
 }

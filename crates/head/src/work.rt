@@ -1,4 +1,4 @@
-// What is done once a head is admitted.
+// What is done once a key, or a head, and header strings are admitted; and the head that comes with a refusal.
 ghost use mathlib.Core.Path.{_≡_};
 ghost use Prim.Native.Nat.{_+_, _≤_};
 ghost use lib.ListN.{length};
@@ -50,9 +50,9 @@ pub(crate) fn head_of(key: &[u8], header: &[u8], lens: &[u32]) -> Head
 }
 
 // The head with strings more; where there is none, no table is built.
-pub(crate) fn extended(head: Head, header: &[u8], lens: &[u32]) -> Head
-    requires { ⌜ (head .width ≤ 32) × (head .count + length (now lens) ≤ 126) × (total (now lens) ≤ length (now header)) ⌝ }
-    ensures { λ r. ⌜ r ≡ extended head (strings (now (header .entry)) (now (lens .entry))) ⌝ }
+pub(crate) fn extended(head: Head, rest: &[u8], lens: &[u32]) -> Head
+    requires { ⌜ (head .width ≤ 32) × (head .count + length (now lens) ≤ 126) × (total (now lens) ≤ length (now rest)) ⌝ }
+    ensures { λ r. ⌜ r ≡ extended head (strings (now (rest .entry)) (now (lens .entry))) ⌝ }
 {
     if lens.len() == 0 {
         return head;
@@ -62,7 +62,7 @@ pub(crate) fn extended(head: Head, header: &[u8], lens: &[u32]) -> Head
     let l = head.l;
     let d = head.d;
     let k = cmac::make_subkeys(l);
-    let more = s2v::absorb_strings(&engine, head.width, &keys, k, d, header, lens);
+    let more = s2v::absorb_strings(&engine, head.width, &keys, k, d, rest, lens);
     let mut next = head;
     next.d = more;
     next.count = head.count + lens.len();

@@ -7,16 +7,18 @@ mod state;
 
 use head::Head;
 use head::Made;
+use siv::Answer;
+use siv::Refusal;
 use stream::Step;
 use stream::Stream;
 
 // What a call answers where a state's buffer has not state::LEN bytes, or a head's not heads::LEN: no number of document 01's.
-const NO_STATE: u64 = 0xffffffff00000000;
+const NO_BUFFER: u64 = 0xffffffff00000000;
 
 // Hands the state back through its buffer and the answer as one number.
 fn give(step: Step, bytes: &mut [u8]) -> u64 {
     if bytes.len() != state::LEN {
-        return NO_STATE;
+        return NO_BUFFER;
     }
     let answer = step.answer;
     let s = step.state;
@@ -27,7 +29,7 @@ fn give(step: Step, bytes: &mut [u8]) -> u64 {
 // Hands the head back through its buffer and the answer as one number.
 fn give_head(made: Made, bytes: &mut [u8]) -> u64 {
     if bytes.len() != heads::LEN {
-        return NO_STATE;
+        return NO_BUFFER;
     }
     let answer = made.answer;
     let h = made.head;
@@ -113,7 +115,7 @@ pub extern "C" fn probe_make_head(key: &[u8], header: &[u8], lens: &[u32], head:
 #[no_mangle]
 pub extern "C" fn probe_extend_head(head: &mut [u8], header: &[u8], lens: &[u32]) -> u64 {
     if head.len() != heads::LEN {
-        return NO_STATE;
+        return NO_BUFFER;
     }
     give_head(heads::load(head).extend(header, lens), head)
 }
@@ -126,7 +128,7 @@ pub extern "C" fn probe_begin_sealer_from(
     bytes: &mut [u8],
 ) -> u64 {
     if head.len() != heads::LEN {
-        return NO_STATE;
+        return NO_BUFFER;
     }
     give(
         Stream::begin_sealer_from(heads::load(head), header, lens),
@@ -143,7 +145,7 @@ pub extern "C" fn probe_begin_opener_from(
     bytes: &mut [u8],
 ) -> u64 {
     if head.len() != heads::LEN {
-        return NO_STATE;
+        return NO_BUFFER;
     }
     give(
         Stream::begin_opener_from(heads::load(head), header, lens, tag),
@@ -154,7 +156,7 @@ pub extern "C" fn probe_begin_opener_from(
 #[no_mangle]
 pub extern "C" fn probe_add(bytes: &mut [u8], piece: &[u8]) -> u64 {
     if bytes.len() != state::LEN {
-        return NO_STATE;
+        return NO_BUFFER;
     }
     give(state::load(bytes).add(piece), bytes)
 }
@@ -162,7 +164,7 @@ pub extern "C" fn probe_add(bytes: &mut [u8], piece: &[u8]) -> u64 {
 #[no_mangle]
 pub extern "C" fn probe_turn(bytes: &mut [u8], output: &mut [u8]) -> u64 {
     if bytes.len() != state::LEN {
-        return NO_STATE;
+        return NO_BUFFER;
     }
     give(state::load(bytes).turn(output), bytes)
 }
@@ -170,7 +172,7 @@ pub extern "C" fn probe_turn(bytes: &mut [u8], output: &mut [u8]) -> u64 {
 #[no_mangle]
 pub extern "C" fn probe_write(bytes: &mut [u8], piece: &[u8], output: &mut [u8]) -> u64 {
     if bytes.len() != state::LEN {
-        return NO_STATE;
+        return NO_BUFFER;
     }
     give(state::load(bytes).write(piece, output), bytes)
 }
@@ -178,7 +180,7 @@ pub extern "C" fn probe_write(bytes: &mut [u8], piece: &[u8], output: &mut [u8])
 #[no_mangle]
 pub extern "C" fn probe_close(bytes: &mut [u8]) -> u64 {
     if bytes.len() != state::LEN {
-        return NO_STATE;
+        return NO_BUFFER;
     }
     give(state::load(bytes).close(), bytes)
 }
@@ -186,7 +188,7 @@ pub extern "C" fn probe_close(bytes: &mut [u8]) -> u64 {
 #[no_mangle]
 pub extern "C" fn probe_feed(bytes: &mut [u8], piece: &[u8], output: &mut [u8]) -> u64 {
     if bytes.len() != state::LEN {
-        return NO_STATE;
+        return NO_BUFFER;
     }
     give(state::load(bytes).feed(piece, output), bytes)
 }
@@ -194,7 +196,7 @@ pub extern "C" fn probe_feed(bytes: &mut [u8], piece: &[u8], output: &mut [u8]) 
 #[no_mangle]
 pub extern "C" fn probe_finish(bytes: &mut [u8], output: &mut [u8]) -> u64 {
     if bytes.len() != state::LEN {
-        return NO_STATE;
+        return NO_BUFFER;
     }
     give(state::load(bytes).finish(output), bytes)
 }
@@ -222,7 +224,11 @@ pub extern "C" fn probe_open_pieces(
     n: usize,
     output: &mut [u8],
 ) -> u64 {
-    kinphlor::pack(pieces::open(key, header, lens, input, n, output))
+    if input.len() < Stream::TAG_LEN {
+        return kinphlor::pack(Answer::Refused(Refusal::SealedLength));
+    }
+    let begun = Stream::begin_opener(key, header, lens, &input[0..16]);
+    kinphlor::pack(pieces::open(begun, &input[16..], n, output))
 }
 
 // Seals input as records of n bytes, all begun from one head: each record's tag and ciphertext behind the last's in output. The head never leaves this call, so that it can be timed.

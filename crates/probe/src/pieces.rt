@@ -1,4 +1,4 @@
-// A whole string sealed or opened by pieces of one length. A call that is refused leaves a state that the next one refuses, so that the last answer tells.
+// A whole string sealed or opened by pieces of one length. Lengths are judged first, so that no call is refused but where begin was, and then each one is: the last answer tells.
 ghost use Prim.Native.Nat.{_+_, _≤_, _<_};
 ghost use lib.ListN.{length};
 use siv::Answer;
@@ -17,12 +17,12 @@ pub(crate) fn piece_end(at: usize, n: usize, end: usize) -> usize
     at + n
 }
 
-pub(crate) fn state_of(step: Step) -> Stream {
+fn state_of(step: Step) -> Stream {
     let s = step.state;
     s
 }
 
-pub(crate) fn answer_of(step: Step) -> Answer {
+fn answer_of(step: Step) -> Answer {
     let a = step.answer;
     a
 }
@@ -72,6 +72,9 @@ pub(crate) fn seal(begun: Step, input: &[u8], n: usize, output: &mut [u8]) -> An
     if n == 0 {
         return Answer::Refused(Refusal::State);
     }
+    if Stream::LIMIT < input.len() {
+        return Answer::Refused(Refusal::TooLong);
+    }
     if output.len() < 16 {
         return Answer::Refused(Refusal::OutputShort);
     }
@@ -84,21 +87,17 @@ pub(crate) fn seal(begun: Step, input: &[u8], n: usize, output: &mut [u8]) -> An
     answer_of(written.close())
 }
 
-pub(crate) fn open(
-    key: &[u8],
-    header: &[u8],
-    lens: &[u32],
-    input: &[u8],
-    n: usize,
-    output: &mut [u8],
-) -> Answer {
+// Opens a ciphertext after an opener's begin.
+pub(crate) fn open(begun: Step, text: &[u8], n: usize, output: &mut [u8]) -> Answer {
     if n == 0 {
         return Answer::Refused(Refusal::State);
     }
-    if input.len() < 16 {
-        return Answer::Refused(Refusal::SealedLength);
+    if Stream::LIMIT < text.len() {
+        return Answer::Refused(Refusal::TooLong);
     }
-    let begun = state_of(Stream::begin_opener(key, header, lens, &input[0..16]));
-    let fed = feed_all(begun, &input[16..], n, output);
+    if output.len() < text.len() {
+        return Answer::Refused(Refusal::OutputShort);
+    }
+    let fed = feed_all(state_of(begun), text, n, output);
     answer_of(fed.finish(output))
 }

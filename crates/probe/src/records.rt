@@ -1,6 +1,5 @@
 // Records of one length, each sealed or opened from one head.
 ghost use Prim.Native.Nat.{_≤_};
-ghost use lib.ListN.{length};
 use crate::pieces;
 use head::Head;
 use head::Made;
@@ -31,9 +30,8 @@ fn open_one(head: Head, record: &[u8], output: &mut [u8]) -> Answer {
     if record.len() < Stream::TAG_LEN {
         return Answer::Refused(Refusal::SealedLength);
     }
-    let begun = pieces::state_of(Stream::begin_opener_from(head, &[], &[], &record[0..16]));
-    let fed = pieces::state_of(begun.feed(&record[16..], output));
-    pieces::answer_of(fed.finish(output))
+    let begun = Stream::begin_opener_from(head, &[], &[], &record[0..16]);
+    pieces::open(begun, &record[16..], Stream::LIMIT, output)
 }
 
 // Seals or opens a record to output from a place on.

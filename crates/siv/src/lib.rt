@@ -30,7 +30,7 @@ pub enum Refusal {
     ScratchShort,
     // The recomputed tag is not the given one.
     Forged,
-    // The stream state is not one for this call.
+    // The stream state, or the head, is not one for this call.
     State,
     // The nonce is empty.
     EmptyNonce,

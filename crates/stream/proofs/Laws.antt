@@ -5,12 +5,12 @@ use mathlib.Core.Bool.{Bool, true, false, not, cond, _&&_, and-eq-true-iff}
 use mathlib.Core.List.{List, [], _∷_, _++_, append-assoc}
 use Prim.Native.Nat.{ℕ, suc, _+_, _-_, _*_, _/_, _%_, _≤_, _<_}
 use native.Mathlib.Numerals.{add-one}
-use native.Mathlib.Decide.{decLt}
+use native.Mathlib.Decide.{decLt, ℕ-discrete}
 use native.Mathlib.Omega.{arith}
 use lib.Dec.{eqb, ltb}
 use lib.ListN.{length, getD, take, drop, replicate, length-drop, drop-of-length-le}
 use lib.Seq.{take-all, take-append-le, take-append-add, drop-append-le, drop-append-add, drop-cons, length-take-le, take-at, drop-at}
-use borrow.Author.Tests.{eqb-true, eq-eqb, ne-eqb, ltb-false, lt-ltb, le-ltb, not-true, not-false}
+use borrow.Author.Tests.{eqb-true, eq-eqb, ne-eqb, ltb-false, not-true, not-false}
 use Rattle.octets.specs.Octets.{put, part, same}
 use Rattle.octets.proofs.Strings.{part-to}
 use Rattle.aes.specs.Aes.{isWidth}
@@ -23,12 +23,13 @@ use Rattle.ctr.proofs.Laws.{length-xorStream}
 use Rattle.siv.specs.declared.Answer.{Answer}
 use Rattle.siv.specs.declared.Answer.the-variants.{Ok, Refused}
 use Rattle.siv.specs.declared.Refusal.the-variants.{Forged}
-use Rattle.siv.specs.Answer.{Outcome, Row, row, first, outcomeOf, success, withoutLength}
+use Rattle.siv.specs.Answer.{Outcome, Row, row, first, outcomeOf, withoutLength}
 use Rattle.siv.specs.Calls.{limit}
 use Rattle.siv.proofs.Laws.{lacks, not-due, first-not, first-pass, first-stop, first-append}
 use Rattle.head.specs.declared.Head.{Head}
 use Rattle.head.specs.declared.Made.{Made}
-use Rattle.head.specs.Head.{zeroHead, MakeResult, DidMake, settleHead}
+use Rattle.head.specs.Head.{MakeResult, DidMake, settleHead}
+use Rattle.head.proofs.Laws.{settle-made, settle-refused}
 use Rattle.stream.specs.declared.Step.{Step}
 use Rattle.stream.specs.declared.Stream.{Stream}
 use Rattle.stream.specs.State.{allZero, writtenLimit, fits, passedBlocks, tailOf, added, ended, tagOfState}
@@ -279,15 +280,17 @@ begin-refused a n result {state} k e ends =
 -- a begin with what making a head gave is the begin with the head and its rows' number
 begun-made : (n : ℕ) (h : Head) (made : Made) (stage : ℕ) (v : List ℕ) → DidMake (settleHead n h) made
     → beginBy (outcomeOf (made .answer) .number) (made .head) stage v ≡ beginBy n h stage v
-begun-made n h made stage v d = go (eqb n 0) refl (d .outcome) (d .head)
+begun-made n h made stage v d = go (ℕ-discrete n 0)
   where
-    given : Bool → MakeResult
-    given t = cond t (record { outcome = success 0; head = h }) (record { outcome = withoutLength n; head = zeroHead })
+    -- by what the head settles to
+    by : (r : MakeResult) → settleHead n h ≡ r → beginBy (outcomeOf (made .answer) .number) (made .head) stage v ≡ beginBy (r .outcome .number) (r .head) stage v
+    by r e =
+        ap₂ (λ (m : ℕ) (g : Head). beginBy m g stage v) (ap (λ (o : Outcome). o .number) (d .outcome) ∙ ap (λ (x : MakeResult). x .outcome .number) e)
+        (d .head ∙ ap (λ (x : MakeResult). x .head) e)
 
-    go : (t : Bool) → eqb n 0 ≡ t → outcomeOf (made .answer) ≡ given t .outcome → made .head ≡ given t .head
-        → beginBy (outcomeOf (made .answer) .number) (made .head) stage v ≡ beginBy n h stage v
-    go true e o p = ap₂ (λ (m : ℕ) (g : Head). beginBy m g stage v) (ap (λ (x : Outcome). x .number) o ∙ sym (eqb-true n 0 e)) p
-    go false e o p = ap₂ (λ (m : ℕ) (g : Head). beginBy m g stage v) (ap (λ (x : Outcome). x .number) o) p ∙ simp e
+    go : Dec (n ≡ 0) → beginBy (outcomeOf (made .answer) .number) (made .head) stage v ≡ beginBy n h stage v
+    go (yes z) = by _ (settle-made n h z) ∙ ap (λ (m : ℕ). beginBy m h stage v) (sym z)
+    go (no z) = by _ (settle-refused n h z) ∙ simp (ne-eqb n 0 z)
 
 pub begins : (n : ℕ) (h : Head) (made : Made) (stage : ℕ) (v : List ℕ) {step : Step} → DidMake (settleHead n h) made
     → DidStep (beginBy (outcomeOf (made .answer) .number) (made .head) stage v) step [] → DidStep (beginBy n h stage v) step []
@@ -304,12 +307,12 @@ module _ (rows : List Row) (present : lacks 0 rows ≡ true) (h : Head) (tag : L
       → DidStep (beginBy (outcomeOf (made .answer) .number) (made .head) 3 v) step [] → DidStep (beginBy (first (rows ++ tagRows (length tag))) h 3 tag) step []
   begins-tagged made v {step} e p m d =
       let whole : part tag 0 16 ≡ tag = take-all 16 tag (omega arith) in
-      subst (λ (r : StepResult). DidStep r step []) (ap₂ (λ (n : ℕ) (w : List ℕ). beginBy n h 3 w) (sym (by-length true (eq-eqb (length tag) 16 e) ∙ same (eqb (first rows) 0) refl)) (p ∙ whole))
+      subst (λ (r : StepResult). DidStep r step []) (ap₂ (λ (n : ℕ) (w : List ℕ). beginBy n h 3 w) (sym (by-length true (eq-eqb (length tag) 16 e) ∙ kept (eqb (first rows) 0) refl)) (p ∙ whole))
       (begins (first rows) h made 3 v m d)
     where
-      same : (t : Bool) → eqb (first rows) 0 ≡ t → cond t 0 (first rows) ≡ first rows
-      same true z = sym (eqb-true (first rows) 0 z)
-      same false z = refl
+      kept : (t : Bool) → eqb (first rows) 0 ≡ t → cond t 0 (first rows) ≡ first rows
+      kept true z = sym (eqb-true (first rows) 0 z)
+      kept false z = refl
 
   -- any other is refused, with 5 where no row before it is due
   pub begins-untagged : (before : Answer) {step : Step} → eqb (length tag) 16 ≡ false → outcomeOf before ≡ withoutLength (first rows)

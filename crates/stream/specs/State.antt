@@ -31,7 +31,7 @@ ended =
       tail = replicate 31 0;
     }
 
--- the state that a head starts, in a stage and with a tag: every state that isn't ended comes from one
+-- the state that a head starts, in a stage and with a tag: every begin that succeeds gives one of these
 abbrev pub start : Head → ℕ → List ℕ → Stream
 start h stage v =
     record {

@@ -1,4 +1,5 @@
 // Piecewise sealing and opening: a stream state goes in by value and comes back with the answer.
+mod begin;
 mod judge;
 mod tail;
 mod work;
@@ -56,7 +57,7 @@ impl Stream {
     pub fn begin_sealer(key: &[u8], header: &[u8], lens: &[u32]) -> Step
         ensures { λ r. ⌜ DidStep (beginSealer (now (key .entry)) (now (header .entry)) (now (lens .entry))) r [] ⌝ }
     {
-        work::begun(Head::make(key, header, lens), 1, [0u8; 16])
+        begin::begun(Head::make(key, header, lens), 1, [0u8; 16])
     }
 
     // An opener's state from a key, a header list and a tag.
@@ -64,26 +65,26 @@ impl Stream {
         ensures { λ r. ⌜ DidStep (beginOpener (now (key .entry)) (now (header .entry)) (now (lens .entry)) (now (tag .entry))) r [] ⌝ }
     {
         if !judge::is_tag(tag) {
-            return work::untagged(siv::judge::judge_header(key.len(), lens, header.len()));
+            return begin::untagged(siv::judge::judge_header(key.len(), lens, header.len()));
         }
-        work::begun(Head::make(key, header, lens), 3, octets::load(tag, 0))
+        begin::begun(Head::make(key, header, lens), 3, octets::load(tag, 0))
     }
 
     // A sealer's state from a head and the strings of the header list that follow its own.
-    pub fn begin_sealer_from(head: Head, header: &[u8], lens: &[u32]) -> Step
-        ensures { λ r. ⌜ DidStep (beginSealerFrom head (now (header .entry)) (now (lens .entry))) r [] ⌝ }
+    pub fn begin_sealer_from(head: Head, rest: &[u8], lens: &[u32]) -> Step
+        ensures { λ r. ⌜ DidStep (beginSealerFrom head (now (rest .entry)) (now (lens .entry))) r [] ⌝ }
     {
-        work::begun(head.extend(header, lens), 1, [0u8; 16])
+        begin::begun(head.extend(rest, lens), 1, [0u8; 16])
     }
 
     // An opener's state from a head, the strings that follow its own, and a tag.
-    pub fn begin_opener_from(head: Head, header: &[u8], lens: &[u32], tag: &[u8]) -> Step
-        ensures { λ r. ⌜ DidStep (beginOpenerFrom head (now (header .entry)) (now (lens .entry)) (now (tag .entry))) r [] ⌝ }
+    pub fn begin_opener_from(head: Head, rest: &[u8], lens: &[u32], tag: &[u8]) -> Step
+        ensures { λ r. ⌜ DidStep (beginOpenerFrom head (now (rest .entry)) (now (lens .entry)) (now (tag .entry))) r [] ⌝ }
     {
         if !judge::is_tag(tag) {
-            return work::untagged(head::judge::judge_rest(head, lens, header.len()));
+            return begin::untagged(head::judge::judge_rest(head, lens, rest.len()));
         }
-        work::begun(head.extend(header, lens), 3, octets::load(tag, 0))
+        begin::begun(head.extend(rest, lens), 3, octets::load(tag, 0))
     }
 
     // Adds a piece of plaintext.

@@ -1,5 +1,5 @@
 // RFC 5297's A.2 from heads of its first strings, and heads that are refused.
-ghost use Prim.Native.Nat.{_+_, _≤_};
+ghost use Prim.Native.Nat.{_≤_};
 ghost use lib.ListN.{length};
 use crate::opened;
 use crate::show;
@@ -140,8 +140,8 @@ fn spoiled_heads() {
     show(b"  another D, which is used as it is", begin(h, &[], &[]));
 }
 
-// Strings behind a head, and a tag, that begin refuses.
-fn refused_rests() {
+// Strings behind a head up to the bound and past it, and a rest and a tag that begin refuses.
+fn rests() {
     let empty = [0u32; 126];
     let tag = [0u8; 15];
     show(b"  126 strings behind one", begin(head_of(1), &[], &empty));
@@ -159,7 +159,7 @@ fn refused_rests() {
     );
 }
 
-// All of it.
+// Prints A.2 from heads, and what is refused.
 pub(crate) fn run() {
     printer::text(b"A.2 from heads of 0 to 3 strings\n");
     by_head(0);
@@ -171,5 +171,5 @@ pub(crate) fn run() {
     printer::text(b"spoiled heads\n");
     spoiled_heads();
     printer::text(b"begins from a head\n");
-    refused_rests();
+    rests();
 }

@@ -9,15 +9,15 @@ fn state_of(step: Step) -> Stream {
     s
 }
 
-// Seals a record behind the head's strings and its own number. A call that is refused hands back a state that the next one
-// refuses, so that the last answer tells.
+// Seals a record behind the head's strings and its own number. Where a call before it was refused, write is refused as well,
+// so that its answer tells.
 fn seal(head: Head, number: &[u8], plain: &[u8], tag: &mut [u8], text: &mut [u8]) -> Answer {
     let begun = state_of(Stream::begin_sealer_from(head, number, &[8]));
     let added = state_of(begun.add(plain));
     let turned = state_of(added.turn(tag));
-    let written = state_of(turned.write(plain, text));
-    let last = written.close();
-    let answer = last.answer;
+    let written = turned.write(plain, text);
+    state_of(written).close();
+    let answer = written.answer;
     answer
 }
 

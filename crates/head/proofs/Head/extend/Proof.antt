@@ -13,7 +13,7 @@ use Rattle.head.proofs.Head.extend.Tie as tie
 
 none : (c : tie.At-match-keys2)
     → let args = c .before .before .before .before .args in
-    first (restRows (args .self) (args .lens .now) (length (args .header .now))) ≡ 0
+    first (restRows (args .self) (args .lens .now) (length (args .rest .now))) ≡ 0
 none c = passed (c .before .judge-rest .result) _ (c .match .keys2) (c .before .judge-rest .ensures)
 
 judge-rest-requires : tie.Need-judge-rest-requires
@@ -35,7 +35,7 @@ enum-told-2 c = search needs
 extended-requires : tie.Need-extended-requires
 extended-requires c κs =
     let args = c .before .before .before .before .before .args in
-    let a = rest-admits (args .self) (args .lens .now) (length (args .header .now)) (none (c .before)) in
+    let a = rest-admits (args .self) (args .lens .now) (length (args .rest .now)) (none (c .before)) in
     (a .width, a .few, omega (arith, a .listed))
 
 returns-2 : tie.Need-returns-2

@@ -1,12 +1,15 @@
 -- `head::judge::judge_rest` meets its contract.
 -- Assumes nothing.
-use mathlib.Core.Path.{ap, sym, _∙_}
-use mathlib.Core.Bool.{not}
-use Prim.Native.Nat.{_≤_}
+use mathlib.Core.Path.{_≡_, ap, sym, _∙_}
+use mathlib.Core.Bool.{false, not}
+use Prim.Native.Nat.{_+_, _≤_}
 use native.Mathlib.Omega.{arith}
+use lib.Dec.{ltb}
+use lib.ListN.{length}
 use borrow.Author.Needs.{needs}
 use borrow.Author.Tests.{lt-ltb, le-ltb, not-false}
 use Rattle.siv.proofs.Laws.{sum-passes}
+use Rattle.head.specs.Head.{fitsHead}
 use Rattle.head.proofs.Laws.{fit}
 use Rattle.head.proofs.judge.judge_rest.Statement.{statement}
 use Rattle.head.proofs.judge.judge_rest.Tie as tie
@@ -17,24 +20,32 @@ fits-requires c κs = search needs
 returns : tie.Need-returns
 returns c = simp (sym (ap not (c .before .fits2 .ensures)) ∙ c .if1 .taken)
 
--- past 9 the head has few strings
+-- past 9 the head fits
+fitting : (c : tie.After-struct-known) → not (fitsHead (c .before .before .before .before .args .head)) ≡ false
+fitting c = sym (ap not (c .before .before .fits2 .ensures)) ∙ c .before .if1 .left
+
+-- so it has few strings, and their sum with those that follow is told by a difference
 few : (c : tie.After-struct-known) → c .before .before .before .before .args .head .count ≤ 126
-few c = fit _ (sym (c .before .before .fits2 .ensures) ∙ not-false _ (c .before .if1 .left)) .few
+few c = fit _ (not-false _ (fitting c)) .few
 
 sub-if2 : tie.Need-sub-if2
 sub-if2 c = omega (arith, few c)
 
 returns-2 : tie.Need-returns-2
-returns-2 c = simp (sym (ap not (c .before .before .before .fits2 .ensures)) ∙ c .before .before .if1 .left, sym (sum-passes _ _ _ (few (c .before))) ∙ lt-ltb _ _ (c .if2 .taken))
+returns-2 c = simp (fitting (c .before), sym (sum-passes _ _ _ (few (c .before))) ∙ lt-ltb _ _ (c .if2 .taken))
+
+-- past 2 they are few together
+within : (c : tie.Else2) → let args = c .before .before .before .before .before .args in ltb 126 (args .head .count + length (args .lens .now)) ≡ false
+within c = sym (sum-passes _ _ _ (few (c .before))) ∙ le-ltb _ _ (c .if2 .left)
 
 sums-to-requires : tie.Need-sums-to-requires
 sums-to-requires c κs = search needs
 
 returns-3 : tie.Need-returns-3
-returns-3 c = simp (sym (ap not (c .before .before .before .before .before .fits2 .ensures)) ∙ c .before .before .before .before .if1 .left, sym (sum-passes _ _ _ (few (c .before .before .before))) ∙ le-ltb _ _ (c .before .before .if2 .left), sym (c .before .sums-to .ensures) ∙ c .if3 .taken)
+returns-3 c = simp (fitting (c .before .before .before), within (c .before .before), sym (c .before .sums-to .ensures) ∙ c .if3 .taken)
 
 returns-4 : tie.Need-returns-4
-returns-4 c = simp (sym (ap not (c .before .before .before .before .before .fits2 .ensures)) ∙ c .before .before .before .before .if1 .left, sym (sum-passes _ _ _ (few (c .before .before .before))) ∙ le-ltb _ _ (c .before .before .if2 .left), sym (c .before .sums-to .ensures) ∙ c .if3 .left)
+returns-4 c = simp (fitting (c .before .before .before), within (c .before .before), sym (c .before .sums-to .ensures) ∙ c .if3 .left)
 
 pub judge-rest-spec : {M : Type 1} → statement M
 judge-rest-spec =

@@ -20,7 +20,7 @@ returns : tie.Need-returns
 unfolding beginSealerFrom extendHead
 returns c =
     let args = c .before .before .before .before .args in
-    begins (first (restRows (args .head) (args .lens .now) (length (args .header .now)))) (extended (args .head) (strings (args .header .now) (args .lens .now))) (c .before .extend .result) _ _ (c .before .extend .ensures) (c .begun .ensures)
+    begins (first (restRows (args .head) (args .lens .now) (length (args .rest .now)))) (extended (args .head) (strings (args .rest .now) (args .lens .now))) (c .before .extend .result) _ _ (c .before .extend .ensures) (c .begun .ensures)
 
 pub begin-sealer-from-spec : {M : Type 1} → statement M
 begin-sealer-from-spec = tie.close (tie.spec extend-requires begun-requires returns)

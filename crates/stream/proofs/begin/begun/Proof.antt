@@ -1,11 +1,11 @@
--- `stream::work::begun` meets its contract.
+-- `stream::begin::begun` meets its contract.
 -- Assumes nothing.
 use mathlib.Core.Path.{refl}
 use borrow.Author.Needs.{needs}
 use Rattle.siv.proofs.Laws.{told-refused, told-ok, told-length}
 use Rattle.stream.proofs.Laws.{begin-refused, done}
-use Rattle.stream.proofs.work.begun.Statement.{statement}
-use Rattle.stream.proofs.work.begun.Tie as tie
+use Rattle.stream.proofs.begin.begun.Statement.{statement}
+use Rattle.stream.proofs.begin.begun.Tie as tie
 
 enum-told : tie.Need-enum-told
 enum-told c = search needs

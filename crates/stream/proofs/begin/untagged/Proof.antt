@@ -1,11 +1,11 @@
--- `stream::work::untagged` meets its contract.
+-- `stream::begin::untagged` meets its contract.
 -- Assumes nothing.
 use mathlib.Core.Path.{refl}
 use borrow.Author.Needs.{needs}
 use borrow.Author.Tests.{eq-eqb, ne-eqb}
 use Rattle.siv.proofs.Laws.{told-refused, told-ok, told-length}
-use Rattle.stream.proofs.work.untagged.Statement.{statement}
-use Rattle.stream.proofs.work.untagged.Tie as tie
+use Rattle.stream.proofs.begin.untagged.Statement.{statement}
+use Rattle.stream.proofs.begin.untagged.Tie as tie
 
 enum-told : tie.Need-enum-told
 enum-told c = search needs

@@ -1,0 +1,73 @@
+// The begins' common end: the state that a head starts, or a refusal with the ended state.
+ghost use mathlib.Core.Path.{_≡_};
+ghost use mathlib.Core.Bool.{cond};
+ghost use mathlib.Core.List.{[]};
+ghost use lib.Dec.{eqb};
+ghost use Rattle.siv.specs.Answer.{outcomeOf};
+ghost use Rattle.stream.specs.State.{ended, start};
+ghost use Rattle.stream.specs.Steps.{DidStep, refusedStep, beginBy};
+use crate::Step;
+use crate::Stream;
+use crate::work;
+use head::Head;
+use head::Made;
+use octets::Block;
+use siv::Answer;
+use siv::Refusal;
+
+// The state that a head starts, in a stage and with a tag.
+fn start(head: Head, stage: u8, v: Block) -> Stream
+    ensures { λ r. ⌜ r ≡ start head stage v ⌝ }
+{
+    let mac_keys = head.mac_keys;
+    let ctr_keys = head.ctr_keys;
+    let l = head.l;
+    let d = head.d;
+    Stream {
+        stage,
+        width: head.width,
+        mac_keys,
+        ctr_keys,
+        l,
+        d,
+        chain: [0u8; 16],
+        v,
+        total: 0,
+        written: 0,
+        tail: [0u8; 31],
+    }
+}
+
+// Begins with the head that was made, or hands its refusal on with the ended state.
+pub(crate) fn begun(made: Made, stage: u8, v: Block) -> Step
+    ensures { λ r. ⌜ DidStep (beginBy (outcomeOf (made .answer) .number) (made .head) stage v) r [] ⌝ }
+{
+    let answer = made.answer;
+    let head = made.head;
+    if let Answer::Refused(_) = answer {
+        return Step {
+            answer,
+            state: work::ended(),
+        };
+    }
+    Step {
+        answer: Answer::Ok(0),
+        state: start(head, stage, v),
+    }
+}
+
+// Refuses a tag of another length than 16: with 5, or with the refusal that is due before it.
+pub(crate) fn untagged(before: Answer) -> Step
+    ensures { λ r. ⌜ DidStep (refusedStep (cond (eqb (outcomeOf before .number) 0) 5 (outcomeOf before .number)) ended []) r [] ⌝ }
+{
+    if let Answer::Refused(_) = before {
+        return Step {
+            answer: before,
+            state: work::ended(),
+        };
+    }
+    Step {
+        answer: Answer::Refused(Refusal::SealedLength),
+        state: work::ended(),
+    }
+}
