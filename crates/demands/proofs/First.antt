@@ -22,12 +22,12 @@ use Rattle.siv.specs.Siv.{genuine}
 use Rattle.siv.proofs.Laws.{lacks, first-not, first-pass, first-stop, first-none, refusal-number, none-where, seal-count, open-count}
 use Rattle.siv.proofs.Ring.{RingWhole, ring-admits, slot-keyed, Chosen, chosen-within, chosen-closed, chosen-same, opensAt, Comes, goes, stops, ring-comes}
 use Rattle.head.specs.declared.Head.{Head}
-use Rattle.head.specs.Head.{zeroHead, MakeResult, settleHead, makeHead, extendHead}
+use Rattle.head.specs.Head.{zeroHead, fitsHead, MakeResult, settleHead, makeHead, extendHead}
 use Rattle.stream.specs.declared.Stream.{Stream}
 use Rattle.stream.specs.State.{ended}
-use Rattle.stream.specs.Steps.{StepResult, doneStep, refusedStep, settle, beginSealer, beginOpener, beginSealerFrom, beginOpenerFrom, addStep, turnStep, writeStep, closeStep, feedStep, finishTable, finishStep}
+use Rattle.stream.specs.Steps.{StepResult, doneStep, refusedStep, settle, tagRows, beginSealer, beginOpener, beginSealerFrom, beginOpenerFrom, addStep, turnStep, writeStep, closeStep, feedStep, finishTable, finishStep}
 use Rattle.kinphlor.specs.Interface.{aeadLens, emptyNonce, fromC}
-use Rattle.demands.specs.First.{order, keeps, FirstDue, none, here, later, FirstSeal, FirstOpen, rowsFromC, FirstFromC, noSlot, FirstRing, FirstHead, FirstStep, FirstFinish, First}
+use Rattle.demands.specs.First.{order, keeps, FirstDue, none, here, later, FirstSeal, FirstOpen, rowsFromC, FirstFromC, noSlot, FirstRing, restTable, FirstHead, FirstStep, FirstFinish, First}
 use Rattle.demands.proofs.Parts.{from-c-parts, ring-parts}
 use Rattle.demands.proofs.Slots.{chosen-noSlot, ring-comes-from-c}
 
@@ -210,6 +210,12 @@ settled numberIn n complete refusal z named =
     go true e = z ∙ sym (eqb-true n 0 e)
     go false e = named n
 
+rest-ordered : (h : Head) (lens : List ℕ) (restLength : ℕ) → keeps order (restTable h lens restLength) ≡ true
+rest-ordered h lens restLength = refl
+
+rest-tag-ordered : (h : Head) (lens : List ℕ) (restLength tagLength : ℕ) → keeps order (restTable h lens restLength ++ tagRows tagLength) ≡ true
+rest-tag-ordered h lens restLength tagLength = refl
+
 by-head : (table : List Row) (h : Head) → keeps order table ≡ true → FirstHead table (settleHead (first table) h) h
 by-head table h k =
     let t = settled (λ (r : MakeResult). r .outcome .number) (first table) (record { outcome = success 0; head = h }) (λ n. record { outcome = withoutLength n; head = zeroHead }) refl (λ n. refl) in
@@ -289,7 +295,7 @@ outcome-tells (Refused r) (Refused s) e =
     ap (λ (x : Refusal). Refused x) (sym (by-number r) ∙ ap (λ (o : Outcome). refusal (o .number)) e ∙ by-number s)
 
 pub answers-or-first-refusal : First
-unfolding makeHead extendHead beginSealer beginOpener beginSealerFrom beginOpenerFrom addStep turnStep writeStep closeStep feedStep sealNumber sealCall openNumber openCall
+unfolding makeHead fitsHead extendHead beginSealer beginOpener beginSealerFrom beginOpenerFrom addStep turnStep writeStep closeStep feedStep sealNumber sealCall openNumber openCall
 answers-or-first-refusal =
     record {
       sealing = sealing;
@@ -307,11 +313,11 @@ answers-or-first-refusal =
           ring-parts keyLength ring header (aeadLens ad nonce) input output scratch (row 10 (eqb nonce 0) ∷ [])
           (ring-comes-from-c keyLength ring header input output scratch ad nonce);
       makingHead = λ key bytes lens. by-head _ _ refl;
-      extendingHead = λ h bytes lens. by-head _ _ refl;
+      extendingHead = λ h bytes lens. by-head _ _ (rest-ordered h lens (length bytes));
       beginningSealer = λ key bytes lens. by-table _ _ _ _ refl refl;
       beginningOpener = λ key bytes lens tag. by-table _ _ _ _ refl refl;
-      beginningSealerFrom = λ h bytes lens. by-table _ _ _ _ refl refl;
-      beginningOpenerFrom = λ h bytes lens tag. by-table _ _ _ _ refl refl;
+      beginningSealerFrom = λ h bytes lens. by-table _ _ _ _ (rest-ordered h lens (length bytes)) refl;
+      beginningOpenerFrom = λ h bytes lens tag. by-table _ _ _ _ (rest-tag-ordered h lens (length bytes) (length tag)) refl;
       adding = λ s piece. by-table _ _ _ _ refl refl;
       turning = λ s output. by-table _ _ _ _ refl refl;
       writing = λ s piece output. by-table _ _ _ _ refl refl;

@@ -21,7 +21,7 @@ use Rattle.head.specs.Head.{headOf, extended, fitsHead, restRows, MakeResult, s
 use Rattle.head.proofs.Laws.{extended-head}
 use Rattle.stream.specs.Steps.{tagRows, beginBy, beginSealer, beginOpener, beginSealerFrom, beginOpenerFrom}
 use Rattle.demands.specs.Head.{Split, Heads}
-use Rattle.demands.specs.Run.{Begin, sealer, opener, undivided, begunFrom, restBytes, begun}
+use Rattle.demands.specs.Run.{Begin, sealer, opener, undivided, begunFrom, firstBytes, restBytes, begun}
 use Rattle.demands.specs.Whole.{Admits}
 
 -- no refusal is due for an admitted key and list
@@ -85,11 +85,7 @@ module _ (key bytes lens more moreLens : List ℕ) (a : Admits key bytes lens) w
 
 -- a list that is divided is what it is joined from
 module _ (key bytes lens : List ℕ) (a : Admits key bytes lens) (n : ℕ) where
-  front : List ℕ
-  front = take (total (take n lens)) bytes
-
-  front-admitted : Admits key front (take n lens)
-  unfolding front
+  front-admitted : Admits key (firstBytes key bytes lens n) (take n lens)
   front-admitted =
       let count : length (take n lens) + length (drop n lens) ≡ length lens = sym (length-append (take n lens) (drop n lens)) ∙ ap length (take-append-drop n lens) in
       record {
@@ -99,18 +95,16 @@ module _ (key bytes lens : List ℕ) (a : Admits key bytes lens) (n : ℕ) where
       }
 
   -- whatever is said of the joined list
-  whole : {A : Type 0} (f : List ℕ → List ℕ → A) → f (front ++ restBytes key bytes lens n) (take n lens ++ drop n lens) ≡ f bytes lens
-  unfolding front
+  whole : {A : Type 0} (f : List ℕ → List ℕ → A) → f ((firstBytes key bytes lens n) ++ restBytes key bytes lens n) (take n lens ++ drop n lens) ≡ f bytes lens
   whole f = ap₂ f (take-append-drop (total (take n lens)) bytes) (take-append-drop n lens)
 
   split : Split key bytes lens n
-  unfolding front
   split =
       record {
-        made = ap (λ (r : MakeResult). r .outcome) (made key front (take n lens) front-admitted);
+        made = ap (λ (r : MakeResult). r .outcome) (made key (firstBytes key bytes lens n) (take n lens) front-admitted);
         begins = λ begin.
-            joins key front (take n lens) (restBytes key bytes lens n) (drop n lens) front-admitted begin ∙ whole (λ b l. begun key b l undivided begin);
-        extends = extends key front (take n lens) (restBytes key bytes lens n) (drop n lens) front-admitted ∙ whole (makeHead key);
+            joins key (firstBytes key bytes lens n) (take n lens) (restBytes key bytes lens n) (drop n lens) front-admitted begin ∙ whole (λ b l. begun key b l undivided begin);
+        extends = extends key (firstBytes key bytes lens n) (take n lens) (restBytes key bytes lens n) (drop n lens) front-admitted ∙ whole (makeHead key);
       }
 
 pub divided-as-undivided : Heads

@@ -42,9 +42,6 @@ unfolding put
 put-nil l = refl
 
 module _ (key bytes lens : List ℕ) (a : Admits key bytes lens) where
-  ss : List (List ℕ)
-  ss = strings bytes lens
-
   -- ---- begin
 
   -- a begin from a head gives what the begin from the whole list gives

@@ -7,6 +7,7 @@ use Prim.Native.Nat.{ℕ, zero, suc, _+_, _-_, _/_, _%_}
 use lib.Dec.{ltb, eqb}
 use lib.ListN.{length, replicate}
 use Rattle.octets.specs.Octets.{put}
+use Rattle.aes.specs.Aes.{isWidth}
 use Rattle.cmac.specs.Cmac.{zeros}
 use Rattle.header.specs.Header.{total, strings}
 use Rattle.siv.specs.declared.Answer.{Answer}
@@ -15,7 +16,7 @@ use Rattle.siv.specs.Calls.{CallResult, scratchNeed, headerRows, openRows, seal
 use Rattle.siv.specs.Ring.{slotCount, slotKey, ringRows, RingResult, openRing}
 use Rattle.siv.specs.Siv.{sealed, opened, genuine}
 use Rattle.head.specs.declared.Head.{Head}
-use Rattle.head.specs.Head.{zeroHead, headOf, extended, restRows, MakeResult, makeHead, extendHead}
+use Rattle.head.specs.Head.{zeroHead, headOf, extended, MakeResult, makeHead, extendHead}
 use Rattle.stream.specs.declared.Stream.{Stream}
 use Rattle.stream.specs.State.{ended, start, added, tagOfState}
 use Rattle.stream.specs.Steps.{StepResult, doneStep, refusedStep, tagRows, beginSealer, beginOpener, beginSealerFrom, beginOpenerFrom, addRows, addStep, turnRows, turned, turnStep, writeRows, wrote, streamedAt, writeStep, closeRows, closeStep, feedRows, feedStep, finishTable, finishStep}
@@ -118,6 +119,11 @@ pub record Parts (given number slot count : ℕ) : Type 0 where
 
 -- ---- a head
 
+-- the rows of a head and the strings that follow its own: of the head 9 judges the key width and the count, and nothing else
+abbrev pub restTable : Head → List ℕ → ℕ → List Row
+restTable h lens restLength =
+    row 9 (not (isWidth (h .width) && not (ltb 126 (h .count)))) ∷ row 2 (ltb 126 (h .count + length lens)) ∷ row 3 (not (eqb (total lens) restLength)) ∷ []
+
 -- a call that makes a head, by its table: a refusal has a head that is all zero
 pub record FirstHead (table : List Row) (result : MakeResult) (complete : Head) : Type 0 where
   pub ordered : keeps order table ≡ true
@@ -169,16 +175,16 @@ pub record First : Type 0 where
       → let r = openRingFromC keyLength ring header ad nonce input output scratch in
       Parts (packedRing (r .slot) (r .call .outcome)) (r .call .outcome .number) (r .slot) (r .call .outcome .count)
   pub makingHead : (key bytes lens : List ℕ) → FirstHead (headerRows (length key) lens (length bytes)) (makeHead key bytes lens) (headOf key (strings bytes lens))
-  pub extendingHead : (h : Head) (bytes lens : List ℕ) → FirstHead (restRows h lens (length bytes)) (extendHead h bytes lens) (extended h (strings bytes lens))
+  pub extendingHead : (h : Head) (bytes lens : List ℕ) → FirstHead (restTable h lens (length bytes)) (extendHead h bytes lens) (extended h (strings bytes lens))
   pub beginningSealer : (key bytes lens : List ℕ)
       → FirstStep (headerRows (length key) lens (length bytes)) (beginSealer key bytes lens) (doneStep 0 (start (headOf key (strings bytes lens)) 1 zeros) []) ended []
   pub beginningOpener : (key bytes lens tag : List ℕ)
       → FirstStep (headerRows (length key) lens (length bytes) ++ tagRows (length tag)) (beginOpener key bytes lens tag)
       (doneStep 0 (start (headOf key (strings bytes lens)) 3 tag) []) ended []
   pub beginningSealerFrom : (h : Head) (bytes lens : List ℕ)
-      → FirstStep (restRows h lens (length bytes)) (beginSealerFrom h bytes lens) (doneStep 0 (start (extended h (strings bytes lens)) 1 zeros) []) ended []
+      → FirstStep (restTable h lens (length bytes)) (beginSealerFrom h bytes lens) (doneStep 0 (start (extended h (strings bytes lens)) 1 zeros) []) ended []
   pub beginningOpenerFrom : (h : Head) (bytes lens tag : List ℕ)
-      → FirstStep (restRows h lens (length bytes) ++ tagRows (length tag)) (beginOpenerFrom h bytes lens tag)
+      → FirstStep (restTable h lens (length bytes) ++ tagRows (length tag)) (beginOpenerFrom h bytes lens tag)
       (doneStep 0 (start (extended h (strings bytes lens)) 3 tag) []) ended []
   pub adding : (s : Stream) (piece : List ℕ) → FirstStep (addRows s (length piece)) (addStep s piece) (doneStep 0 (added s piece) []) s []
   pub turning : (s : Stream) (output : List ℕ)

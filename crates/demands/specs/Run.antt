@@ -36,13 +36,16 @@ begunFrom h bytes lens (opener T) = beginOpenerFrom h bytes lens T
 
 -- a key and a header list
 module _ (key bytes lens : List ℕ) where
-  -- what making a head from the first n strings gave
-  abbrev pub firstHead : ℕ → MakeResult
-  firstHead n = makeHead key (take (total (take n lens)) bytes) (take n lens)
+  -- the bytes of the first n strings, and of the others
+  abbrev pub firstBytes : ℕ → List ℕ
+  firstBytes n = take (total (take n lens)) bytes
 
-  -- the bytes of the others
   abbrev pub restBytes : ℕ → List ℕ
   restBytes n = drop (total (take n lens)) bytes
+
+  -- what making a head from the first n strings gave
+  abbrev pub firstHead : ℕ → MakeResult
+  firstHead n = makeHead key (firstBytes n) (take n lens)
 
   -- what begin gave
   abbrev pub begun : Start → Begin → StepResult

@@ -47,7 +47,7 @@ impl Head {
         }
     }
 
-    // The head with the next strings of its header list.
+    // The head with the next strings of its header list. A refusal comes with a head that is all zero.
     pub fn extend(self, rest: &[u8], lens: &[u32]) -> Made
         ensures { λ r. ⌜ DidMake (extendHead self (now (rest .entry)) (now (lens .entry))) r ⌝ }
     {

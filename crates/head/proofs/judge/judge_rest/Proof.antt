@@ -1,8 +1,8 @@
 -- `head::judge::judge_rest` meets its contract.
 -- Assumes nothing.
 use mathlib.Core.Path.{_≡_, ap, sym, _∙_}
-use mathlib.Core.Bool.{false, not}
-use Prim.Native.Nat.{_+_, _≤_}
+use mathlib.Core.Bool.{true, false, not}
+use Prim.Native.Nat.{_+_, _-_, _≤_}
 use native.Mathlib.Omega.{arith}
 use lib.Dec.{ltb}
 use lib.ListN.{length}
@@ -32,11 +32,17 @@ sub-if2 : tie.Need-sub-if2
 sub-if2 c = omega (arith, few c)
 
 returns-2 : tie.Need-returns-2
-returns-2 c = simp (fitting (c .before), sym (sum-passes _ _ _ (few (c .before))) ∙ lt-ltb _ _ (c .if2 .taken))
+returns-2 c =
+    let args = c .before .before .before .before .before .args in
+    let many : ltb (126 - args .head .count) (length (args .lens .now)) ≡ true = lt-ltb _ _ (c .if2 .taken) in
+    simp (fitting (c .before), sym (sum-passes _ _ _ (few (c .before))) ∙ many)
 
 -- past 2 they are few together
 within : (c : tie.Else2) → let args = c .before .before .before .before .before .args in ltb 126 (args .head .count + length (args .lens .now)) ≡ false
-within c = sym (sum-passes _ _ _ (few (c .before))) ∙ le-ltb _ _ (c .if2 .left)
+within c =
+    let args = c .before .before .before .before .before .args in
+    let few-more : ltb (126 - args .head .count) (length (args .lens .now)) ≡ false = le-ltb _ _ (c .if2 .left) in
+    sym (sum-passes _ _ _ (few (c .before))) ∙ few-more
 
 sums-to-requires : tie.Need-sums-to-requires
 sums-to-requires c κs = search needs

@@ -21,7 +21,9 @@ add-next : tie.Need-add-next
 add-next c = search needs
 
 returns-2 : tie.Need-returns-2
-returns-2 c = goes-on _ _ _ (c .before .before .before .before .make-subkeys .ensures) (c .before .absorb-strings .ensures)
+returns-2 c =
+    let args = c .before .before .before .before .before .before .before .before .before .before .before .before .args in
+    goes-on (args .rest .now) (args .lens .now) (args .head) (c .before .before .before .before .make-subkeys .ensures) (c .before .absorb-strings .ensures)
 
 pub extended-spec : {M : Type 1} → statement M
 extended-spec =
