@@ -89,7 +89,8 @@ pub fn by_pieces(function: Function, given: &Given, n: usize, output: &mut [u8])
     cut([probe_seal_pieces, probe_open_pieces], function, given, n, output)
 }
 
-/// Records with n bytes of plaintext each, all begun from one head: the first refusal, or else the last answer.
+/// Records with n bytes of plaintext each, all begun from one head: a refusal of the lengths, else the first refusal, else
+/// the last answer.
 pub fn records(function: Function, given: &Given, n: usize, output: &mut [u8]) -> Answer {
     cut([probe_seal_records, probe_open_records], function, given, n, output)
 }
