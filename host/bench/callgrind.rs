@@ -4,7 +4,7 @@ use crate::table::{grouped, rounded, Table};
 use shared::library::KEY_LENS;
 use std::process::Command;
 
-const LENS: [usize; 2] = [40, 65_536];
+const LENS: [usize; 4] = [0, 40, 1_000, 65_536];
 
 pub fn describe(program: &str) -> String {
     table(program).map_or_else(|why| format!("no callgrind: {why}"), |table| table.to_string())
@@ -20,7 +20,8 @@ fn table(program: &str) -> Result<Table, String> {
             let [seal, open, ring, four] = [1, 2, 3, 4].map(|calls| counts[calls] - counts[calls - 1]);
             let mut row = vec![key_len.to_string(), grouped(len as u64)];
             for instructions in [seal, open] {
-                row.extend([grouped(instructions), rounded(instructions as f64 / len as f64)]);
+                let a_byte = if len == 0 { "-".to_string() } else { rounded(instructions as f64 / len as f64) };
+                row.extend([grouped(instructions), a_byte]);
             }
             row.extend([grouped(ring), grouped(four), format!("{:.3}", ring as f64 / four as f64)]);
             table.rows.push(row);

@@ -8,7 +8,7 @@ use std::process::{Command, Stdio};
 use Function::{Open, Seal};
 
 /// The lengths of a plaintext.
-pub const LENS: [usize; 7] = [0, 40, 256, 1024, 16_384, 65_536, 1_048_576];
+pub const LENS: [usize; 7] = [0, 40, 256, 1_000, 16_384, 65_536, 1_048_576];
 
 /// Which of the machine's instructions the peers may use. Each mode runs in a process of its own, since OpenSSL reads
 /// its setting as it is loaded and libgcrypt takes its own before its first use.
