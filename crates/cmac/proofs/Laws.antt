@@ -1,17 +1,18 @@
 -- Laws of doubling, padding, the chain and CMAC, over any block function E.
 -- Assumes nothing.
 use mathlib.Core.Path.{_≡_, refl, ap, ap₂, sym, subst, _∙_}
-use mathlib.Core.List.{List, [], _∷_, _++_}
+use mathlib.Core.List.{List, [], _∷_, _++_, append-assoc}
 use Prim.Native.Nat.{ℕ, zero, suc, _+_, _-_, _*_, _/_, _%_, _≤_, _<_}
-use native.Mathlib.Nat.{le-of-suc-le-suc, not-suc-le-zero, add-zero, add-suc, zero-add, sub-zero, zero-sub, suc-sub-suc}
+use native.Mathlib.Nat.{le-of-suc-le-suc, not-suc-le-zero, add-zero, add-suc, zero-add}
 use native.Mathlib.Numerals.{add-one}
 use native.Mathlib.Omega.{arith}
-use lib.ListN.{length, getD, take, drop, set, replicate, length-append, length-drop, List·getD-eq-default}
-use lib.Seq.{drop-drop, drop-at, drop-append-le, take-append-le, set-append-seam}
+use lib.Bits.{bitXor}
+use lib.ListN.{length, getD, take, drop, set, replicate, length-append, length-drop, length-replicate, List·getD-eq-default}
+use lib.Seq.{drop-drop, drop-at, drop-append-le, take-append-le}
 use Rattle.octets.specs.Octets.{xors, put, part}
-use Rattle.octets.proofs.Strings.{Written, written-more, written-all, put-all}
+use Rattle.octets.proofs.Strings.{Written, written-more, written-all, put-all, xors-nil, xors-zeros}
 use Rattle.cmac.specs.declared.Subkeys.{Subkeys}
-use Rattle.cmac.specs.Cmac.{zeros, shifted, pad, lastBlock, blocksBefore, chain, cmacFrom}
+use Rattle.cmac.specs.Cmac.{shifted, pad, PaddingFolds, lastBlock, blocksBefore, chain, cmacFrom}
 
 -- ---- doubling
 
@@ -48,18 +49,23 @@ shifted-last b r i v long last e w =
 
 -- ---- padding
 
-drop-replicate : (n m a : ℕ) → drop n (replicate m a) ≡ replicate (m - n) a
-drop-replicate zero m a = ap (λ (k : ℕ). replicate k a) (sym (sub-zero m))
-drop-replicate (suc n) zero a = ap (λ (k : ℕ). replicate k a) (sym (zero-sub (suc n)))
-drop-replicate (suc n) (suc m) a = drop-replicate n m a ∙ ap (λ (k : ℕ). replicate k a) (sym (suc-sub-suc m n))
+pub length-pad : (s : List ℕ) → length s < 16 → length (pad s) ≡ 16
+unfolding pad
+length-pad s h = simp (length-append, length-replicate) (omega arith)
 
--- a short string written over zeros, and 80 behind it
-pub set-pad : (s : List ℕ) → length s < 16 → set (put zeros 0 s) (length s) 0x80 ≡ pad s
-unfolding put pad
-set-pad s h =
-    let left : 16 - (0 + length s) ≡ suc (15 - length s) = omega arith in
-    ap (λ (l : List ℕ). set (s ++ l) (length s) 0x80) (drop-replicate (0 + length s) 16 0 ∙ ap (λ (k : ℕ). replicate k 0) left)
-    ∙ set-append-seam s 0 (replicate (15 - length s) 0) 0x80
+pub padding-folds : PaddingFolds
+unfolding pad
+padding-folds c s = sym (ap (xors c) (sym (append-assoc s (0x80 ∷ []) (replicate (15 - length s) 0))) ∙ xors-zeros c (s ++ (0x80 ∷ [])) (15 - length s))
+
+-- the code's way: where t is xored into the front of c, one byte more is xored in behind it
+pub xor-byte : (c t : List ℕ) {r : List ℕ} (i b : ℕ) → i < length c → length t ≡ i → r ≡ xors c t → set r i (bitXor (getD r i 0) b) ≡ xors c (t ++ (b ∷ []))
+unfolding xors
+xor-byte c t i b h n e = ap₂ (λ (l : List ℕ) (k : ℕ). set l k (bitXor (getD l k 0) b)) e (sym n) ∙ go c t (omega arith)
+  where
+    go : (c t : List ℕ) → length t < length c → set (xors c t) (length t) (bitXor (getD (xors c t) (length t) 0) b) ≡ xors c (t ++ (b ∷ []))
+    go [] t h = absurd (not-suc-le-zero h)
+    go (x ∷ c) [] h = ap (λ (l : List ℕ). bitXor x b ∷ l) (sym (xors-nil c))
+    go (x ∷ c) (y ∷ t) h = ap (λ (l : List ℕ). bitXor x y ∷ l) (go c t (le-of-suc-le-suc h))
 
 -- ---- the chain
 

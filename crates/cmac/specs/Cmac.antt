@@ -1,5 +1,6 @@
 -- CMAC with a 16-byte tag, SP 800-38B, over any block function E.
 -- Assumes nothing.
+use mathlib.Core.Path.{_≡_}
 use mathlib.Core.Bool.{cond}
 use mathlib.Core.List.{List, [], _∷_, _++_}
 use Prim.Native.Nat.{ℕ, zero, suc, _+_, _-_, _*_, _/_, _%_}
@@ -33,6 +34,10 @@ subkeys l = record { k1 = double l; k2 = double (double l) }
 -- 6.2, step 4: a short string, one byte 80, then zeros
 unfoldable pub pad : List ℕ → List ℕ
 pad s = s ++ (0x80 ∷ replicate (15 - length s) 0)
+
+-- slip 3 of document 02: s and then 80, xored into the front of c, give what xoring the padded s gives; whatever the lengths, so for a block c and an s of 0 to 15 bytes
+abbrev pub PaddingFolds : Type 0
+PaddingFolds = (c s : List ℕ) → xors c (s ++ (0x80 ∷ [])) ≡ xors c (pad s)
 
 -- 6.2, step 4: the last block, whole or short, as it enters the chain
 unfoldable pub lastBlock : Subkeys → List ℕ → List ℕ

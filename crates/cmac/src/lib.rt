@@ -67,29 +67,32 @@ pub fn make_subkeys(l: Block) -> Subkeys
     Subkeys { k1, k2 }
 }
 
-// A short string, one byte 80, then zeros.
-pub fn pad(s: &[u8]) -> Block
+// A block with a short string, and then one byte 80, xored into its front.
+pub fn xor_padded(c: Block, s: &[u8]) -> Block
     requires { ⌜ length (now s) < 16 ⌝ }
-    ensures { λ r. ⌜ r ≡ pad (now (s .entry)) ⌝ }
+    ensures { λ r. ⌜ r ≡ xors c (pad (now (s .entry))) ⌝ }
 {
-    let n = s.len();
-    let mut r = [0u8; 16];
-    octets::copy_at(&mut r, 0, s);
-    r[n] = 0x80;
+    let mut r = c;
+    let mut i = 0;
+    while i < s.len() {
+        r[i] = r[i] ^ s[i];
+        i += 1;
+    }
+    r[i] = r[i] ^ 0x80;
     r
 }
 
-// The last block as it enters the chain.
-fn last_block(k: Subkeys, s: &[u8]) -> Block
+// The chain c with the last block xored in.
+fn xor_last(k: Subkeys, c: Block, s: &[u8]) -> Block
     requires { ⌜ length (now s) ≤ 16 ⌝ }
-    ensures { λ r. ⌜ r ≡ lastBlock k (now (s .entry)) ⌝ }
+    ensures { λ r. ⌜ r ≡ xors c (lastBlock k (now (s .entry))) ⌝ }
 {
     if s.len() == 16 {
         let k1 = k.k1;
-        return octets::xor_block(octets::load(s, 0), k1);
+        return octets::xor_block(c, octets::xor_block(octets::load(s, 0), k1));
     }
     let k2 = k.k2;
-    octets::xor_block(pad(s), k2)
+    octets::xor_block(xor_padded(c, s), k2)
 }
 
 // The chain with block n of a slice.
@@ -152,10 +155,5 @@ pub fn cmac_from(
     let n = blocks_before(s.len());
     let b = chain_blocks(engine, width, keys, c, s, n);
     let at = 16 * n;
-    aes::encrypt(
-        engine,
-        width,
-        keys,
-        octets::xor_block(b, last_block(k, &s[at..])),
-    )
+    aes::encrypt(engine, width, keys, xor_last(k, b, &s[at..]))
 }

@@ -9,11 +9,11 @@ use native.Mathlib.Numerals.{add-one}
 use native.Mathlib.Omega.{arith}
 use lib.Bits.{bitXor, bitOr, xor-zero-r, xor-self}
 use lib.Dec.{eqb}
-use lib.ListN.{length, take, drop, getD, set, length-append, length-drop, length-set}
+use lib.ListN.{length, take, drop, getD, set, replicate, length-append, length-drop, length-set}
 use lib.Seq.{paste, paste-zero, paste-suc, take-length, drop-length, length-take-le, take-at, drop-at, drop-drop, take-suc, take-nil, take-take, take-all, getD-take}
 use borrow.Author.Tests.{eqb-true, eq-eqb}
 use Rattle.octets.specs.Octets.{xors, put, part, entries, same}
-use Rattle.octets.proofs.Bits.{xor-undo, xor-zero, or-zero}
+use Rattle.octets.proofs.Bits.{xor-assoc, xor-undo, xor-zero, or-zero}
 use Rattle.octets.proofs.Tests.{bool-ext}
 
 -- ---- xor
@@ -31,6 +31,14 @@ xors-undo [] b = refl
 xors-undo (x ∷ a) [] = refl
 xors-undo (x ∷ a) (y ∷ b) = ap₂ (λ (h : ℕ) (t : List ℕ). h ∷ t) (xor-undo x y) (xors-undo a b)
 
+pub xors-assoc : (a b c : List ℕ) → length c ≤ length b → xors (xors a b) c ≡ xors a (xors b c)
+unfolding xors
+xors-assoc [] b c h = refl
+xors-assoc (x ∷ a) [] [] h = refl
+xors-assoc (x ∷ a) [] (z ∷ c) h = absurd (not-suc-le-zero h)
+xors-assoc (x ∷ a) (y ∷ b) [] h = refl
+xors-assoc (x ∷ a) (y ∷ b) (z ∷ c) h = ap₂ (λ (h : ℕ) (t : List ℕ). h ∷ t) (xor-assoc x y z) (xors-assoc a b c (le-of-suc-le-suc h))
+
 pub take-xors : (n : ℕ) (a b : List ℕ) → take n (xors a b) ≡ xors (take n a) (take n b)
 unfolding xors
 take-xors zero a b = refl
@@ -38,16 +46,25 @@ take-xors (suc n) [] b = refl
 take-xors (suc n) (x ∷ a) [] = refl
 take-xors (suc n) (x ∷ a) (y ∷ b) = ap (λ (t : List ℕ). bitXor x y ∷ t) (take-xors n a b)
 
+pub xors-nil : (a : List ℕ) → xors a [] ≡ a
+unfolding xors
+xors-nil [] = refl
+xors-nil (x ∷ a) = refl
+
 pub drop-xors : (n : ℕ) (a b : List ℕ) → drop n (xors a b) ≡ xors (drop n a) (drop n b)
 unfolding xors
 drop-xors zero a b = refl
 drop-xors (suc n) [] b = refl
-drop-xors (suc n) (x ∷ a) [] = xors-nil (drop n a)
-  where
-    xors-nil : (l : List ℕ) → l ≡ xors l []
-    xors-nil [] = refl
-    xors-nil (z ∷ l) = refl
+drop-xors (suc n) (x ∷ a) [] = sym (xors-nil (drop n a))
 drop-xors (suc n) (x ∷ a) (y ∷ b) = drop-xors n a b
+
+-- zeros at the end of what is xored in change nothing
+pub xors-zeros : (a b : List ℕ) (n : ℕ) → xors a (b ++ replicate n 0) ≡ xors a b
+unfolding xors
+xors-zeros [] b n = refl
+xors-zeros (x ∷ a) [] zero = refl
+xors-zeros (x ∷ a) [] (suc n) = ap₂ (λ (h : ℕ) (t : List ℕ). h ∷ t) (xor-zero-r x) (xors-zeros a [] n ∙ xors-nil a)
+xors-zeros (x ∷ a) (y ∷ b) n = ap (λ (t : List ℕ). bitXor x y ∷ t) (xors-zeros a b n)
 
 pub xors-append : (a a′ b b′ : List ℕ) → length a ≡ length b → xors (a ++ a′) (b ++ b′) ≡ xors a b ++ xors a′ b′
 unfolding xors

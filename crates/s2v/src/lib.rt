@@ -96,7 +96,7 @@ fn tag_short(
     requires { ⌜ Ready (now engine) × (width ≤ 32) × (length (now p) < 16) ⌝ }
     ensures { λ r. ⌜ r ≡ cmacFrom (cipher width (now (keys .entry))) k c (xors (double d) (pad (now (p .entry)))) ⌝ }
 {
-    let t = octets::xor_block(cmac::double(d), cmac::pad(p));
+    let t = cmac::xor_padded(cmac::double(d), p);
     cmac::cmac_from(engine, width, keys, k, c, &t)
 }
 

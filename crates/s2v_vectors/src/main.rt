@@ -49,8 +49,8 @@ fn short_end(d: Block, p: &[u8])
     requires { ⌜ length (now p) < 16 ⌝ }
 {
     let doubled = cmac::double(d);
-    let padded = cmac::pad(p);
-    let t = octets::xor_block(doubled, padded);
+    let padded = cmac::xor_padded([0u8; 16], p);
+    let t = cmac::xor_padded(doubled, p);
     printer::line(b"    double", &doubled);
     printer::line(b"    pad", &padded);
     printer::line(b"    xor", &t);

@@ -20,20 +20,17 @@ chain-blocks-requires c κs = search needs
 mul-at : tie.Need-mul-at
 mul-at c = search needs
 
-sub-last-block : tie.Need-sub-last-block
-sub-last-block c = search needs
+sub-xor-last : tie.Need-sub-xor-last
+sub-xor-last c = search needs
 
-part-last-block-start : tie.Need-part-last-block-start
-part-last-block-start c = search needs
+part-xor-last-start : tie.Need-part-xor-last-start
+part-xor-last-start c = search needs
 
-part-last-block-end : tie.Need-part-last-block-end
-part-last-block-end c = search needs
+part-xor-last-end : tie.Need-part-xor-last-end
+part-xor-last-end c = search needs
 
-last-block-requires : tie.Need-last-block-requires
-last-block-requires c κs = search needs
-
-xor-block-requires : tie.Need-xor-block-requires
-xor-block-requires c κs = search needs
+xor-last-requires : tie.Need-xor-last-requires
+xor-last-requires c κs = search needs
 
 encrypt-requires : tie.Need-encrypt-requires
 encrypt-requires c κs = search needs
@@ -41,13 +38,13 @@ encrypt-requires c κs = search needs
 returns : tie.Need-returns
 unfolding cmacFrom
 returns c =
-    let ends = c .before .before .before in
+    let ends = c .before .before in
     let counted = ends .before .before .blocks-before .ensures in
     let args = ends .before .before .before .before .args in
     let s = args .s .now in
     let E = cipher (args .width) (args .keys .now) in
     c .encrypt .ensures
-    ∙ ap E (c .before .xor-block .ensures ∙ ap₂ xors (ends .before .chain-blocks .ensures) (c .before .before .last-block .ensures ∙ ap (lastBlock (args .k)) (part-rest s _)))
+    ∙ ap E (c .before .xor-last .ensures ∙ ap₂ xors (ends .before .chain-blocks .ensures) (ap (lastBlock (args .k)) (part-rest s _)))
     ∙ ap (λ (n : ℕ). E (xors (chain E (args .c) s n) (lastBlock (args .k) (drop (16 * n) s)))) counted
 
 pub cmac-from-spec : {M : Type 1} → statement M
@@ -57,10 +54,9 @@ cmac-from-spec =
     blocks-before-requires
     chain-blocks-requires
     mul-at
-    sub-last-block
-    part-last-block-start
-    part-last-block-end
-    last-block-requires
-    xor-block-requires
+    sub-xor-last
+    part-xor-last-start
+    part-xor-last-end
+    xor-last-requires
     encrypt-requires
     returns)
