@@ -47,8 +47,9 @@ returns-2 c =
     let k = start .args .k in
     let s = start .args .s .now in
     let k2-length : length (k .k2) ≡ 16 = search needs in
+    let xored : c .xor-block3 .result ≡ xors (c .before .xor-padded .result) (k .k2) = c .xor-block3 .ensures in
     simp (ne-eqb _ _ (c .before .before .before .if1 .left))
-    (c .xor-block3 .ensures
+    (xored
     ∙ ap (λ (l : List ℕ). xors l (k .k2)) (c .before .xor-padded .ensures)
     ∙ xors-assoc (start .args .c) (pad s) (k .k2) (omega (arith, length-pad s (omega arith))))
 

@@ -1,15 +1,13 @@
 -- `cmac::xor_padded` meets its contract: after i turns the first i bytes of the string are xored in, and then 80.
 -- Assumes nothing.
 use mathlib.Core.Path.{_≡_, sym, ap, _∙_}
-use mathlib.Core.List.{[], _∷_, _++_}
-use Prim.Native.Nat.{ℕ, _+_, _-_, _≤_}
-use native.Mathlib.Numerals.{add-one}
+use Prim.Native.Nat.{_-_, _≤_}
 use native.Mathlib.Omega.{arith}
-use lib.ListN.{length, getD, take}
-use lib.Seq.{length-take-le, take-suc, take-all}
+use lib.ListN.{length, take}
+use lib.Seq.{take-all}
 use Rattle.octets.specs.Octets.{xors}
 use Rattle.octets.proofs.Strings.{xors-nil}
-use Rattle.cmac.proofs.Laws.{padding-folds, xor-byte}
+use Rattle.cmac.proofs.Laws.{padding-folds, xor-byte, xor-more}
 use Rattle.cmac.proofs.xor_padded.Statement.{statement}
 use Rattle.cmac.proofs.xor_padded.Tie as tie
 
@@ -41,10 +39,7 @@ loop-again : tie.Need-loop-again Inv-loop μ-loop
 loop-again c =
     let now = c .before .before .loop in
     let args = c .before .before .before .args in
-    let s = args .s .now in
-    let count : length (take (now .i) s) ≡ now .i = length-take-le (now .i) s (omega arith) in
-    let longer : take (now .i) s ++ (getD s (now .i) 0 ∷ []) ≡ take (now .i + 1) s = sym (take-suc s (now .i) 0 (omega arith)) ∙ ap (λ (n : ℕ). take n s) (sym (add-one (now .i))) in
-    (omega arith, xor-byte (args .c) (take (now .i) s) (now .i) (getD s (now .i) 0) (omega arith) count (now .inv .1) ∙ ap (xors (args .c)) longer)
+    (omega arith, xor-more (args .c) (args .s .now) (now .i) (omega arith) (omega arith) (now .inv .1))
 
 array-read-r-2 : tie.Need-array-read-r-2 Inv-loop μ-loop
 array-read-r-2 c = omega arith
