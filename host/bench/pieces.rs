@@ -10,7 +10,7 @@ use shared::whole::{Given, Header};
 use Function::{Open, Seal};
 
 /// The lengths of a plaintext; and of a piece, the first of which cuts 40 bytes in three.
-const LENS: [usize; 4] = [40, 1024, 65_536, 1_048_576];
+const LENS: [usize; 4] = [40, 1_000, 65_536, 1_048_576];
 const PIECES: [usize; 3] = [16, 64, 4096];
 
 /// A target: bytes, the column of the piece's length, and the most that the ratio may be.

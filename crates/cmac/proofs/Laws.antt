@@ -1,14 +1,14 @@
 -- Laws of doubling, padding, the chain and CMAC, over any block function E.
 -- Assumes nothing.
 use mathlib.Core.Path.{_≡_, refl, ap, ap₂, sym, subst, _∙_}
-use mathlib.Core.List.{List, [], _∷_, _++_, append-assoc}
+use mathlib.Core.List.{List, [], _∷_, _++_}
 use Prim.Native.Nat.{ℕ, zero, suc, _+_, _-_, _*_, _/_, _%_, _≤_, _<_}
 use native.Mathlib.Nat.{le-of-suc-le-suc, not-suc-le-zero, add-zero, add-suc, zero-add}
 use native.Mathlib.Numerals.{add-one}
 use native.Mathlib.Omega.{arith}
 use lib.Bits.{bitXor}
 use lib.ListN.{length, getD, take, drop, set, replicate, length-append, length-drop, length-replicate, List·getD-eq-default}
-use lib.Seq.{drop-drop, drop-at, drop-append-le, take-append-le, length-take-le, take-suc}
+use lib.Seq.{drop-drop, drop-at, drop-append-le, take-append-le, append-snoc, length-take-le, take-suc}
 use Rattle.octets.specs.Octets.{xors, part}
 use Rattle.octets.proofs.Strings.{Written, written-more, written-all, put-all, xors-nil, xors-zeros}
 use Rattle.cmac.specs.declared.Subkeys.{Subkeys}
@@ -56,12 +56,12 @@ length-pad s h = simp (length-append, length-replicate) (omega arith)
 pub padding-folds : PaddingFolds
 unfolding pad
 padding-folds c s =
-    sym (xors-zeros c (s ++ (0x80 ∷ [])) (15 - length s)) ∙ ap (xors c) (append-assoc s (0x80 ∷ []) (replicate (15 - length s) 0))
+    sym (xors-zeros c (s ++ (0x80 ∷ [])) (15 - length s)) ∙ ap (xors c) (append-snoc s 0x80 (replicate (15 - length s) 0))
 
 -- the code's way: where t is xored into the front of c, one byte more is xored in behind it
-pub xor-byte : (c t : List ℕ) {r : List ℕ} (i b : ℕ) → i < length c → length t ≡ i → r ≡ xors c t → set r i (bitXor (getD r i 0) b) ≡ xors c (t ++ (b ∷ []))
+pub xors-byte : (c t : List ℕ) {r : List ℕ} (i b : ℕ) → i < length c → length t ≡ i → r ≡ xors c t → set r i (bitXor (getD r i 0) b) ≡ xors c (t ++ (b ∷ []))
 unfolding xors
-xor-byte c t i b h n e = ap₂ (λ (l : List ℕ) (k : ℕ). set l k (bitXor (getD l k 0) b)) e (sym n) ∙ go c t (omega arith)
+xors-byte c t i b h n e = ap₂ (λ (l : List ℕ) (k : ℕ). set l k (bitXor (getD l k 0) b)) e (sym n) ∙ go c t (omega arith)
   where
     go : (c t : List ℕ) → length t < length c → set (xors c t) (length t) (bitXor (getD (xors c t) (length t) 0) b) ≡ xors c (t ++ (b ∷ []))
     go [] t h = absurd (not-suc-le-zero h)
@@ -69,9 +69,9 @@ xor-byte c t i b h n e = ap₂ (λ (l : List ℕ) (k : ℕ). set l k (bitXor (ge
     go (x ∷ c) (y ∷ t) h = ap (λ (l : List ℕ). bitXor x y ∷ l) (go c t (le-of-suc-le-suc h))
 
 -- a turn of the loop that xors s in: one byte of it more
-pub xor-more : (c s : List ℕ) {r : List ℕ} (i : ℕ) → i < length c → i < length s → r ≡ xors c (take i s) → set r i (bitXor (getD r i 0) (getD s i 0)) ≡ xors c (take (i + 1) s)
-xor-more c s i hc hs e =
-    rw (add-one, take-suc s i 0) (xor-byte c (take i s) i (getD s i 0) hc (length-take-le i s (omega arith)) e)
+pub xors-more : (c s : List ℕ) {r : List ℕ} (i : ℕ) → i < length c → i < length s → r ≡ xors c (take i s) → set r i (bitXor (getD r i 0) (getD s i 0)) ≡ xors c (take (i + 1) s)
+xors-more c s i hc hs e =
+    rw (add-one, take-suc s i 0) (xors-byte c (take i s) i (getD s i 0) hc (length-take-le i s (omega arith)) e)
 
 -- ---- the chain
 

@@ -82,7 +82,7 @@ pub fn xor_padded(c: Block, s: &[u8]) -> Block
     r
 }
 
-// The chain c with the last block xored in.
+// The chain c with the last block and its subkey xored in.
 fn xor_last(k: Subkeys, c: Block, s: &[u8]) -> Block
     requires { ⌜ length (now s) ≤ 16 ⌝ }
     ensures { λ r. ⌜ r ≡ xors c (lastBlock k (now (s .entry))) ⌝ }
@@ -153,6 +153,9 @@ pub fn cmac_from(
     ensures { λ r. ⌜ r ≡ cmacFrom (cipher width (now (keys .entry))) k c (now (s .entry)) ⌝ }
 {
     let n = blocks_before(s.len());
+    if n == 0 {
+        return aes::encrypt(engine, width, keys, xor_last(k, c, s));
+    }
     let b = chain_blocks(engine, width, keys, c, s, n);
     let at = 16 * n;
     aes::encrypt(engine, width, keys, xor_last(k, b, &s[at..]))

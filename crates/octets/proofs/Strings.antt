@@ -31,6 +31,7 @@ xors-undo [] b = refl
 xors-undo (x ∷ a) [] = refl
 xors-undo (x ∷ a) (y ∷ b) = ap₂ (λ (h : ℕ) (t : List ℕ). h ∷ t) (xor-undo x y) (xors-undo a b)
 
+-- xor is associative where the last string is no longer than the one in the middle
 pub xors-assoc : (a b c : List ℕ) → length c ≤ length b → xors (xors a b) c ≡ xors a (xors b c)
 unfolding xors
 xors-assoc [] b c h = refl

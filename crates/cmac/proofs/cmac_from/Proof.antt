@@ -1,18 +1,43 @@
--- `cmac::cmac_from` meets its contract.
+-- `cmac::cmac_from` meets its contract: of one block, and of blocks that are chained before the last.
 -- Assumes nothing.
-use mathlib.Core.Path.{ap, ap₂, _∙_}
+use mathlib.Core.Path.{_≡_, sym, ap, ap₂, _∙_}
+use mathlib.Core.List.{List}
 use Prim.Native.Nat.{ℕ, _*_}
 use lib.ListN.{drop}
 use Rattle.aes.specs.Cipher.{cipher}
 use Rattle.octets.specs.Octets.{xors}
 use Rattle.octets.proofs.Strings.{part-rest}
+use Rattle.cmac.specs.declared.Subkeys.{Subkeys}
 use Rattle.cmac.specs.Cmac.{lastBlock, chain, cmacFrom}
 use borrow.Author.Needs.{needs}
 use Rattle.cmac.proofs.cmac_from.Statement.{statement}
 use Rattle.cmac.proofs.cmac_from.Tie as tie
 
+-- CMAC with n blocks before the last
+abbrev ending : (List ℕ → List ℕ) → Subkeys → List ℕ → List ℕ → ℕ → List ℕ
+ending E k c s n = E (xors (chain E c s n) (lastBlock k (drop (16 * n) s)))
+
 blocks-before-requires : tie.Need-blocks-before-requires
 blocks-before-requires c κs = search needs
+
+xor-last-requires : tie.Need-xor-last-requires
+xor-last-requires c κs = search needs
+
+encrypt-requires : tie.Need-encrypt-requires
+encrypt-requires c κs = search needs
+
+returns : tie.Need-returns
+unfolding chain cmacFrom
+returns c =
+    let none = c .before .before .if1 .taken in
+    let counted = c .before .before .before .blocks-before .ensures in
+    let args = c .before .before .before .before .before .args in
+    let s = args .s .now in
+    let E = cipher (args .width) (args .keys .now) in
+    let last : c .before .xor-last .result ≡ xors (args .c) (lastBlock (args .k) s) = c .before .xor-last .ensures in
+    c .encrypt .ensures
+    ∙ ap E last
+    ∙ ap (ending E (args .k) (args .c) s) (sym none ∙ counted)
 
 chain-blocks-requires : tie.Need-chain-blocks-requires
 chain-blocks-requires c κs = search needs
@@ -29,34 +54,37 @@ part-xor-last-start c = search needs
 part-xor-last-end : tie.Need-part-xor-last-end
 part-xor-last-end c = search needs
 
-xor-last-requires : tie.Need-xor-last-requires
-xor-last-requires c κs = search needs
+xor-last-requires-2 : tie.Need-xor-last-requires-2
+xor-last-requires-2 c κs = search needs
 
-encrypt-requires : tie.Need-encrypt-requires
-encrypt-requires c κs = search needs
+encrypt-requires-2 : tie.Need-encrypt-requires-2
+encrypt-requires-2 c κs = search needs
 
-returns : tie.Need-returns
+returns-2 : tie.Need-returns-2
 unfolding cmacFrom
-returns c =
+returns-2 c =
     let ends = c .before .before in
-    let counted = ends .before .before .blocks-before .ensures in
-    let args = ends .before .before .before .before .args in
+    let counted = ends .before .before .before .blocks-before .ensures in
+    let args = ends .before .before .before .before .before .args in
     let s = args .s .now in
     let E = cipher (args .width) (args .keys .now) in
-    c .encrypt .ensures
-    ∙ ap E (c .before .xor-last .ensures ∙ ap₂ xors (ends .before .chain-blocks .ensures) (ap (lastBlock (args .k)) (part-rest s _)))
-    ∙ ap (λ (n : ℕ). E (xors (chain E (args .c) s n) (lastBlock (args .k) (drop (16 * n) s)))) counted
+    c .encrypt2 .ensures
+    ∙ ap E (c .before .xor-last2 .ensures ∙ ap₂ xors (ends .before .chain-blocks .ensures) (ap (lastBlock (args .k)) (part-rest s _)))
+    ∙ ap (ending E (args .k) (args .c) s) counted
 
 pub cmac-from-spec : {M : Type 1} → statement M
 cmac-from-spec =
     tie.close
     (tie.spec
     blocks-before-requires
+    xor-last-requires
+    encrypt-requires
+    returns
     chain-blocks-requires
     mul-at
     sub-xor-last
     part-xor-last-start
     part-xor-last-end
-    xor-last-requires
-    encrypt-requires
-    returns)
+    xor-last-requires-2
+    encrypt-requires-2
+    returns-2)

@@ -1,4 +1,4 @@
--- `cmac::xor_last` meets its contract.
+-- `cmac::xor_last` meets its contract. `xored` stands alone so that a wrong subkey is refused by its name.
 -- Assumes nothing.
 use mathlib.Core.Path.{_≡_, ap, _∙_}
 use mathlib.Core.List.{List}

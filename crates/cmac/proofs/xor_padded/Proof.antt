@@ -7,7 +7,7 @@ use lib.ListN.{length, take}
 use lib.Seq.{take-all}
 use Rattle.octets.specs.Octets.{xors}
 use Rattle.octets.proofs.Strings.{xors-nil}
-use Rattle.cmac.proofs.Laws.{padding-folds, xor-byte, xor-more}
+use Rattle.cmac.proofs.Laws.{padding-folds, xors-byte, xors-more}
 use Rattle.cmac.proofs.xor_padded.Statement.{statement}
 use Rattle.cmac.proofs.xor_padded.Tie as tie
 
@@ -39,7 +39,7 @@ loop-again : tie.Need-loop-again Inv-loop μ-loop
 loop-again c =
     let now = c .before .before .loop in
     let args = c .before .before .before .args in
-    (omega arith, xor-more (args .c) (args .s .now) (now .i) (omega arith) (omega arith) (now .inv .1))
+    (omega arith, xors-more (args .c) (args .s .now) (now .i) (omega arith) (omega arith) (now .inv .1))
 
 array-read-r-2 : tie.Need-array-read-r-2 Inv-loop μ-loop
 array-read-r-2 c = omega arith
@@ -52,7 +52,7 @@ returns c =
     let now = c .before .loop in
     let args = c .before .before .args in
     let s = args .s .now in
-    xor-byte (args .c) s (now .i) 0x80 (omega arith) (omega arith) (now .inv .1 ∙ ap (xors (args .c)) (take-all (now .i) s (omega arith)))
+    xors-byte (args .c) s (now .i) 0x80 (omega arith) (omega arith) (now .inv .1 ∙ ap (xors (args .c)) (take-all (now .i) s (omega arith)))
     ∙ padding-folds (args .c) s
 
 pub xor-padded-spec : {M : Type 1} → statement M
