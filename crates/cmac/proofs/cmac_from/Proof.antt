@@ -1,4 +1,4 @@
--- `cmac::cmac_from` meets its contract: of one block, and of blocks that are chained before the last.
+-- `cmac::cmac_from` meets its contract: of one block, and of blocks that are chained before the last. `last` stands alone so that a wrong chain is refused by its name.
 -- Assumes nothing.
 use mathlib.Core.Path.{_≡_, sym, ap, ap₂, _∙_}
 use mathlib.Core.List.{List}
