@@ -285,7 +285,7 @@ impl List<'_> {
         }
         self.state.check(&what, &self.fields.state(&self.model));
         let own: &[Field] = match kind {
-            Kind::Add | Kind::Feed => &[Field::Chain, Field::Total, Field::Tail],
+            Kind::Add | Kind::Feed => &[Field::Chain, Field::Total, Field::TailLen, Field::Tail],
             Kind::Turn => &[Field::Stage, Field::V],
             Kind::Write => &[Field::Written],
             Kind::Close | Kind::Finish => &Field::ALL,

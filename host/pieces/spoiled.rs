@@ -3,7 +3,7 @@
 
 use crate::call::{Call, Kind};
 use crate::probe::{self, Base};
-use crate::state::{Field, State};
+use crate::state::{tail_len, Field, State};
 use crate::steps::{self, Case, REASONS};
 use crate::Pieces;
 use shared::check;
@@ -14,7 +14,7 @@ use shared::random::Random;
 use shared::table::Together;
 use std::collections::{BTreeMap, BTreeSet};
 
-const TOTALS: [usize; 11] = [0, 1, 15, 16, 17, 31, 32, 33, 47, 48, 100];
+const TOTALS: [usize; 15] = [0, 1, 14, 15, 16, 17, 30, 31, 32, 33, 46, 47, 48, 49, 100];
 /// Key widths, and numbers that are none.
 pub const ANY_WIDTHS: [u64; 20] = [
     0, 1, 8, 15, 16, 17, 23, 24, 25, 31, 32, 33, 48, 64, 255, 256 + 16, (1 << 32) + 16, (1 << 32) + 24, (1 << 63) + 32,
@@ -42,10 +42,13 @@ pub fn run(Pieces { peers, random, noise, .. }: &mut Pieces) {
                 for (changed, state) in spoiled_states(random, &good) {
                     run_all(&state, changed, noise, &mut seen);
                 }
-                // At the limit outputs are long, so that not every change is tried there.
+                // At the limit outputs are long, so that not every change is tried there but every tail length.
                 if [16, 31].contains(&total) {
-                    for (changed, state) in spoiled_states(random, &with_more(&good, LIMIT)).into_iter().step_by(23) {
-                        run_all(&state, changed, noise, &mut seen);
+                    let states = spoiled_states(random, &with_more(&good, LIMIT));
+                    for (i, (changed, state)) in states.into_iter().enumerate() {
+                        if i % 23 == 0 || changed == Some(Field::TailLen) {
+                            run_all(&state, changed, noise, &mut seen);
+                        }
                     }
                 }
             }
@@ -81,6 +84,12 @@ fn with_more(good: &State, most: usize) -> State {
         let n = good.number(field);
         state.set_number(field, if n == 0 { 0 } else { n + more });
     }
+    with_its_tail_len(state)
+}
+
+/// A state with the tail length that its total has.
+fn with_its_tail_len(mut state: State) -> State {
+    state.set_number(Field::TailLen, tail_len(state.number(Field::Total)) as u64);
     state
 }
 
@@ -96,11 +105,15 @@ fn spoiled_states(random: &mut Random, good: &State) -> Vec<(Option<Field>, Stat
         (Field::Width, ANY_WIDTHS.to_vec()),
         (Field::Total, [&totals[..], &big].concat()),
         (Field::Written, [&writtens[..], &big].concat()),
+        (Field::TailLen, (0..=32).chain([(1 << 32) + good.number(Field::TailLen)]).chain(big).collect()),
     ];
     for (field, values) in numbers {
         for n in values {
             let mut state = good.clone();
             state.set_number(field, n);
+            if field == Field::Total {
+                all.push((Some(field), with_its_tail_len(state.clone())));
+            }
             all.push((Some(field), state));
         }
     }
@@ -176,11 +189,11 @@ fn run_one(state: &State, changed: Option<Field>, call: &Call, len: usize, seen:
 
     let what = || {
         let changed = changed.map_or("nothing".to_string(), |field| format!("{field:?}"));
-        let [stage, width, total, written] =
-            [Field::Stage, Field::Width, Field::Total, Field::Written].map(|field| state.number(field));
+        let [stage, width, total, written, tail_len] =
+            [Field::Stage, Field::Width, Field::Total, Field::Written, Field::TailLen].map(|field| state.number(field));
         format!(
-            "state with stage {stage}, width {width}, total {total}, written {written} (changed: {changed}): \
-             {call}, output of {len} bytes, due {due:?}"
+            "state with stage {stage}, width {width}, total {total}, written {written}, tail length {tail_len} \
+             (changed: {changed}): {call}, output of {len} bytes, due {due:?}"
         )
     };
     check::holds(|| format!("{}: expected number and length {want:?}, got {got:?}", what()), got == want);

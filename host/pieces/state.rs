@@ -5,7 +5,7 @@ use shared::mac::Block;
 use std::ops::Range;
 use Field::*;
 
-pub const LEN: usize = 600;
+pub const LEN: usize = 608;
 
 #[derive(Clone, Copy, PartialEq, Eq, PartialOrd, Ord, Debug)]
 pub enum Field {
@@ -19,11 +19,12 @@ pub enum Field {
     V,
     Total,
     Written,
+    TailLen,
     Tail,
 }
 
 impl Field {
-    pub const ALL: [Field; 11] = [Stage, Width, MacKeys, CtrKeys, L, D, Chain, V, Total, Written, Tail];
+    pub const ALL: [Field; 12] = [Stage, Width, MacKeys, CtrKeys, L, D, Chain, V, Total, Written, TailLen, Tail];
 
     /// Its place in the bytes, as in crates/probe/src/state.rt.
     fn place(self) -> Range<usize> {
@@ -38,7 +39,8 @@ impl Field {
             V => 537..553,
             Total => 553..561,
             Written => 561..569,
-            Tail => 569..LEN,
+            TailLen => 569..577,
+            Tail => 577..LEN,
         }
     }
 }
@@ -79,8 +81,9 @@ impl State {
         self.get_mut(field).copy_from_slice(bytes);
     }
 
-    /// The tail of a text, and zeros behind it.
+    /// The tail of a text with its length, and zeros behind it.
     pub fn set_tail(&mut self, used: &[u8]) {
+        self.set_number(TailLen, used.len() as u64);
         let tail = self.get_mut(Tail);
         tail.fill(0);
         tail[..used.len()].copy_from_slice(used);

@@ -20,11 +20,12 @@ pub struct Case<'a> {
 }
 
 /// The reasons for refusal 9.
-pub const REASONS: [(&str, fn(&Case) -> bool); 6] = [
+pub const REASONS: [(&str, fn(&Case) -> bool); 7] = [
     ("stage", |c| c.state.number(Stage) != c.call.kind.wants()),
     ("key width", |c| !WIDTHS.contains(&c.state.number(Width))),
     ("total", |c| c.total() > LIMIT as u64),
     ("written", |c| c.written() > if c.state.number(Stage) == 2 { c.total() } else { 0 }),
+    ("tail length", |c| c.state.number(TailLen) != tail_len(c.total()) as u64),
     ("unused tail byte", |c| c.state.get(Tail)[tail_len(c.total())..].iter().any(|&byte| byte != 0)),
     ("close before all is written", |c| c.call.kind == Kind::Close && c.written() < c.total()),
 ];

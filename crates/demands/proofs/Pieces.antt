@@ -31,9 +31,9 @@ use Rattle.stream.specs.Steps.{streamedAt}
 use Rattle.stream.proofs.Laws.{stateWith, Cut, cut, passed-more}
 use Rattle.siv.proofs.Laws.{length-streamed}
 
-with-same : (s : Stream) {c c′ : List ℕ} {n n′ : ℕ} {t t′ : List ℕ} → c ≡ c′ → n ≡ n′ → t ≡ t′ → stateWith s c n t ≡ stateWith s c′ n′ t′
+with-same : (s : Stream) {c c′ : List ℕ} {n n′ : ℕ} {t t′ : List ℕ} → c ≡ c′ → n ≡ n′ → t ≡ t′ → stateWith s c n (tailLength n) t ≡ stateWith s c′ n′ (tailLength n′) t′
 with-same s {c} {c′} {n} {n′} {t} {t′} p q r =
-    ap₂ (λ (x : List ℕ) (y : ℕ). stateWith s x y t) p q ∙ ap (stateWith s c′ n′) r
+    ap₂ (λ (x : List ℕ) (y : ℕ). stateWith s x y (tailLength y) t) p q ∙ ap (stateWith s c′ n′ (tailLength n′)) r
 
 zero-rest : (n m : ℕ) → allZero (drop n (replicate m 0)) ≡ true
 unfolding allZero
@@ -60,6 +60,7 @@ module _ (key : List ℕ) (ss : List (List ℕ)) where
         v = v;
         total = length P;
         written = written;
+        «tail_len» = tailLength (length P);
         tail = tailOf (drop (16 * passedBlocks (length P)) P);
       }
 
@@ -124,6 +125,7 @@ module _ (key : List ℕ) (ss : List (List ℕ)) where
           h .half,
           le-ltb limit (length P) total,
           le-ltb (writtenLimit stage (length P)) written most,
+          eq-eqb (tailLength (length P)) (tailLength (length P)) refl,
         )
         (unused stage v written P)
 

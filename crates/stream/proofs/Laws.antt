@@ -76,18 +76,20 @@ pub record Fit (wanted : ℕ) (s : Stream) : Type 0 where
   pub width : s .width ≤ 32
   pub total : s .total ≤ limit
   pub written : s .written ≤ writtenLimit wanted (s .total)
+  pub tailed : s .«tail_len» ≡ tailLength (s .total)
 
 pub fit : (wanted : ℕ) (s : Stream) → fits wanted s ≡ true → Fit wanted s
 unfolding fits
 fit wanted s e =
-    let judged = eqb (s .stage) wanted && isWidth (s .width) && not (ltb limit (s .total)) && not (ltb (writtenLimit wanted (s .total)) (s .written)) in
-    let b = and-eq-true-iff _ (not (ltb (writtenLimit wanted (s .total)) (s .written))) .0 (and-eq-true-iff judged _ .0 e .0) in
+    let t = and-eq-true-iff _ (eqb (s .«tail_len») (tailLength (s .total))) .0 (and-eq-true-iff _ (allZero (drop (tailLength (s .total)) (s .tail))) .0 e .0) in
+    let b = and-eq-true-iff _ (not (ltb (writtenLimit wanted (s .total)) (s .written))) .0 (t .0) in
     let d = and-eq-true-iff _ (not (ltb limit (s .total))) .0 (b .0) in
     let f = and-eq-true-iff (eqb (s .stage) wanted) (isWidth (s .width)) .0 (d .0) in
     record {
       width = width (s .width) (f .1) .high;
       total = ltb-false limit (s .total) (not-true (ltb limit (s .total)) (d .1));
       written = ltb-false (writtenLimit wanted (s .total)) (s .written) (not-true (ltb (writtenLimit wanted (s .total)) (s .written)) (b .1));
+      tailed = eqb-true (s .«tail_len») (tailLength (s .total)) (t .1);
     }
 
 -- ---- the calls' results
@@ -179,17 +181,18 @@ pub record Piece (total n : ℕ) : Type 0 where
   pub count : 16 * (passedBlocks (total + n) - passedBlocks total) + tailLength (total + n) ≡ tailLength total + n
   pub used : tailLength total ≤ 31
   pub left : tailLength (total + n) < 32
+  pub leaves : (tailLength total + n - tailLength (total + n)) / 16 ≡ passedBlocks (total + n) - passedBlocks total
 
 pub piece : (total n : ℕ) → Piece total n
 piece total n =
     let a : Cut total = cut total in
     let b : Cut (total + n) = cut (total + n) in
     let h : passedBlocks total ≤ passedBlocks (total + n) = passed-more total n in
-    record { more = h; count = omega arith; used = omega arith; left = b .short }
+    record { more = h; count = omega arith; used = omega arith; left = b .short; leaves = omega arith }
 
--- a state with another chain, total and tail
-abbrev pub stateWith : Stream → List ℕ → ℕ → List ℕ → Stream
-stateWith s c total rest =
+-- a state with another chain, total, and tail with its length
+abbrev pub stateWith : Stream → List ℕ → ℕ → ℕ → List ℕ → Stream
+stateWith s c total left rest =
     record {
       stage = s .stage;
       width = s .width;
@@ -201,16 +204,16 @@ stateWith s c total rest =
       v = s .v;
       total = total;
       written = s .written;
+      «tail_len» = left;
       tail = rest;
     }
 
 -- the state that the code puts together is the one with the piece
-pub absorbed : (s : Stream) (text : List ℕ) {total n used : ℕ} {c rest : List ℕ} → total ≡ s .total + length text → n ≡ passedBlocks total - passedBlocks (s .total)
+pub absorbed : (s : Stream) (text : List ℕ) {left n used : ℕ} {c rest : List ℕ} → left ≡ tailLength (s .total + length text) → n ≡ passedBlocks (s .total + length text) - passedBlocks (s .total)
     → used ≡ tailLength (s .total) → c ≡ chain (cipher (s .width) (s .«mac_keys»)) (s .chain) (take used (s .tail) ++ text) n
-    → rest ≡ tailOf (drop (16 * n) (take used (s .tail) ++ text)) → stateWith s c total rest ≡ added s text
+    → rest ≡ tailOf (drop (16 * n) (take used (s .tail) ++ text)) → stateWith s c (s .total + length text) left rest ≡ added s text
 unfolding added
-absorbed s text {total} {n} {used} {c} {rest} t m u p q =
-    let count : n ≡ passedBlocks (s .total + length text) - passedBlocks (s .total) = m ∙ ap (λ (k : ℕ). passedBlocks k - passedBlocks (s .total)) t in
+absorbed s text {left} {n} {used} {c} {rest} t count u p q =
     simp (
       t,
       p ∙ ap₂ (λ (h k : ℕ). chain (cipher (s .width) (s .«mac_keys»)) (s .chain) (take h (s .tail) ++ text) k) u count,

@@ -28,6 +28,7 @@ ended =
       v = zeros;
       total = 0;
       written = 0;
+      «tail_len» = 0;
       tail = replicate 31 0;
     }
 
@@ -45,6 +46,7 @@ start h stage v =
       v = v;
       total = 0;
       written = 0;
+      «tail_len» = 0;
       tail = replicate 31 0;
     }
 
@@ -57,13 +59,14 @@ allZero (b ∷ l) = eqb b 0 && allZero l
 abbrev pub writtenLimit : ℕ → ℕ → ℕ
 writtenLimit stage total = cond (eqb stage 2) total 0
 
--- what refusal 9 judges, for a call that wants a stage: the stage, the key width, total and written within their limits, and the unused bytes of the tail zero
+-- what refusal 9 judges, for a call that wants a stage: the stage, the key width, total and written within their limits, the tail's length by its rule, and the unused bytes of the tail zero
 unfoldable pub fits : ℕ → Stream → Bool
 fits wanted s =
     eqb (s .stage) wanted
     && isWidth (s .width)
     && not (ltb limit (s .total))
     && not (ltb (writtenLimit wanted (s .total)) (s .written))
+    && eqb (s .«tail_len») (tailLength (s .total))
     && allZero (drop (tailLength (s .total)) (s .tail))
 
 -- the used bytes of the tail, which wait for the plaintext's end: "held bytes" of document 01
@@ -94,6 +97,7 @@ added s piece =
       v = s .v;
       total = total;
       written = s .written;
+      «tail_len» = tailLength total;
       tail = tailOf (drop (16 * n) (usedTail s ++ piece));
     }
 

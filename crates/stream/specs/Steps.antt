@@ -95,6 +95,7 @@ turned s v =
       v = v;
       total = s .total;
       written = s .written;
+      «tail_len» = s .«tail_len»;
       tail = s .tail;
     }
 
@@ -121,6 +122,7 @@ wrote s n =
       v = s .v;
       total = s .total;
       written = s .written + n;
+      «tail_len» = s .«tail_len»;
       tail = s .tail;
     }
 

@@ -34,6 +34,7 @@ fn start(head: Head, stage: u8, v: Block) -> Stream
         v,
         total: 0,
         written: 0,
+        tail_len: 0,
         tail: [0u8; 31],
     }
 }

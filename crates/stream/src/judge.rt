@@ -51,8 +51,11 @@ fn fits(wanted: u8, s: Stream) -> bool
     if written_limit(wanted, s.total) < s.written {
         return false;
     }
+    if s.tail_len != s2v::tail_len(s.total) {
+        return false;
+    }
     let tail = s.tail;
-    zero_from(&tail, s2v::tail_len(s.total))
+    zero_from(&tail, s.tail_len)
 }
 
 // Whether total with n bytes more is past a limit.

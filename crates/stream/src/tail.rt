@@ -7,20 +7,14 @@ ghost use Rattle.octets.specs.Octets.{xors, put, part};
 ghost use Rattle.aes.specs.Cipher.{cipher};
 ghost use Rattle.aes.specs.Engine.{Ready};
 ghost use Rattle.cmac.specs.Cmac.{chain};
+ghost use Rattle.s2v.specs.S2v.{tailLength};
 ghost use Rattle.siv.specs.Calls.{limit};
-ghost use Rattle.stream.specs.State.{passedBlocks, tailOf, added};
+ghost use Rattle.stream.specs.State.{tailOf, added};
 use crate::Stream;
 use crate::Tail;
 use aes::Engine;
 use aes::RoundKeys;
 use octets::Block;
-
-// How many blocks of n bytes stand before their tail.
-fn passed_blocks(n: usize) -> usize
-    ensures { λ r. ⌜ r ≡ passedBlocks n ⌝ }
-{
-    (n - s2v::tail_len(n)) / 16
-}
 
 // Copies n bytes from a place of two joined strings to the front of a slice.
 fn copy_joined(dst: &mut [u8], a: &[u8], b: &[u8], at: usize, n: usize)
@@ -122,19 +116,21 @@ fn tail_joined(a: &[u8], b: &[u8], at: usize, n: usize) -> Tail
 
 // The state with a piece of plaintext more.
 pub(crate) fn absorb(s: Stream, piece: &[u8]) -> Stream
-    requires { ⌜ (s .width ≤ 32) × (s .total + length (now piece) ≤ limit) ⌝ }
+    requires { ⌜ (s .width ≤ 32) × (s .«tail_len» ≡ tailLength (s .total)) × (s .total + length (now piece) ≤ limit) ⌝ }
     ensures { λ r. ⌜ r ≡ added s (now (piece .entry)) ⌝ }
 {
     let mut next = s;
     let total = s.total + piece.len();
-    let n = passed_blocks(total) - passed_blocks(s.total);
-    let used = s2v::tail_len(s.total);
+    let used = s.tail_len;
+    let left = s2v::tail_len(total);
+    let n = (used + piece.len() - left) / 16;
     let tail = s.tail;
     let keys = s.mac_keys;
     let c = s.chain;
     let chain = chain_text(s.width, &keys, c, &tail[0..used], piece, n);
-    let rest = tail_joined(&tail[0..used], piece, 16 * n, s2v::tail_len(total));
+    let rest = tail_joined(&tail[0..used], piece, 16 * n, left);
     next.chain = chain;
+    next.tail_len = left;
     next.tail = rest;
     next.total = total;
     next

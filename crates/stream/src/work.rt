@@ -3,6 +3,7 @@ ghost use mathlib.Core.Path.{_≡_};
 ghost use Prim.Native.Nat.{_+_, _≤_};
 ghost use lib.ListN.{length};
 ghost use Rattle.octets.specs.Octets.{put};
+ghost use Rattle.s2v.specs.S2v.{tailLength};
 ghost use Rattle.stream.specs.State.{ended, tagOfState};
 ghost use Rattle.stream.specs.Steps.{streamedAt};
 use crate::Stream;
@@ -23,13 +24,14 @@ pub(crate) fn ended() -> Stream
         v: [0u8; 16],
         total: 0,
         written: 0,
+        tail_len: 0,
         tail: [0u8; 31],
     }
 }
 
 // V of all that was added.
 pub(crate) fn tag_of_state(s: Stream) -> Block
-    requires { ⌜ s .width ≤ 32 ⌝ }
+    requires { ⌜ (s .width ≤ 32) × (s .«tail_len» ≡ tailLength (s .total)) ⌝ }
     ensures { λ r. ⌜ r ≡ tagOfState s ⌝ }
 {
     let engine = aes::engine();
@@ -38,7 +40,7 @@ pub(crate) fn tag_of_state(s: Stream) -> Block
     let d = s.d;
     let c = s.chain;
     let tail = s.tail;
-    let used = s2v::tail_len(s.total);
+    let used = s.tail_len;
     let k = cmac::make_subkeys(l);
     s2v::tag_from(&engine, s.width, &keys, k, d, c, &tail[0..used])
 }

@@ -270,6 +270,7 @@ fn spoiled() {
     show(b"  key width 20", s.add(&p));
     let mut s = sealer();
     s.total = 1048577;
+    s.tail_len = 17;
     show(b"  total over the limit", s.add(&p));
     let mut s = sealer();
     s.written = 1;
@@ -277,6 +278,9 @@ fn spoiled() {
     let mut s = state_of(state_of(sealer().add(&p)).turn(&mut output));
     s.written = 48;
     show(b"  written over total", s.write(&p, &mut output));
+    let mut s = sealer();
+    s.tail_len = 16;
+    show(b"  tail length 16 of no bytes", s.add(&p));
     let mut s = sealer();
     let mut tail = s.tail;
     tail[0] = 1;
@@ -292,8 +296,10 @@ fn limits() {
     let p = A2_PLAINTEXT;
     let mut s = sealer();
     s.total = 1048529;
+    s.tail_len = 17;
     show(b"  47 bytes more than 1,048,529", s.add(&p));
     s.total = 1048530;
+    s.tail_len = 18;
     show(b"  47 bytes more than 1,048,530", s.add(&p));
     let mut output = [0u8; 16];
     let writing = state_of(sealer().turn(&mut output));

@@ -1,10 +1,13 @@
 -- `stream::judge::fits` meets its contract.
 -- Assumes nothing.
 use mathlib.Core.Path.{subst, ap, _∙_, _≡_, sym}
+use mathlib.Core.Bool.{_&&_}
 use Prim.Native.Nat.{ℕ, _≤_, _<_}
+use lib.Dec.{eqb}
 use lib.ListN.{drop, length}
 use borrow.Author.Needs.{needs}
 use borrow.Author.Tests.{not-true, not-false, eq-eqb, ne-eqb, lt-ltb, le-ltb}
+use Rattle.s2v.specs.S2v.{tailLength}
 use Rattle.stream.specs.State.{allZero, fits}
 use Rattle.stream.proofs.judge.fits.Statement.{statement}
 use Rattle.stream.proofs.judge.fits.Tie as tie
@@ -37,23 +40,35 @@ returns-4 c =
     let past = subst (λ (m : ℕ). m < args .s .written) (c .before .before .written-limit .ensures) (c .if4 .taken) in
     simp (eq-eqb _ _ (c .before .before .before .before .before .before .before .if1 .left), sym (c .before .before .before .before .before .before .is-width .ensures) ∙ not-false _ (c .before .before .before .before .before .if2 .left), le-ltb _ _ (c .before .before .before .if3 .left), lt-ltb _ _ past)
 
-slice-aggregate-zero-from : tie.Need-slice-aggregate-zero-from
-slice-aggregate-zero-from c = sym (tail-length (c .before .before .before .before .before .before .before .before .before .before .before))
+-- past stage, width, total and written, the tail's length and its unused bytes decide
+past : (c : tie.Else4)
+    → let args = c .before .before .before .before .before .before .before .before .before .args in
+    fits (args .wanted) (args .s) ≡ (eqb (args .s .«tail_len») (tailLength (args .s .total)) && allZero (drop (tailLength (args .s .total)) (args .s .tail)))
+unfolding fits
+past c =
+    let args = c .before .before .before .before .before .before .before .before .before .args in
+    let within = subst (λ (m : ℕ). args .s .written ≤ m) (c .before .before .written-limit .ensures) (c .if4 .left) in
+    simp (eq-eqb _ _ (c .before .before .before .before .before .before .before .if1 .left), sym (c .before .before .before .before .before .before .is-width .ensures) ∙ not-false _ (c .before .before .before .before .before .if2 .left), le-ltb _ _ (c .before .before .before .if3 .left), le-ltb _ _ within)
 
 tail-len-requires : tie.Need-tail-len-requires
 tail-len-requires c κs = search needs
 
+returns-5 : tie.Need-returns-5
+returns-5 c =
+    let differs = ne-eqb _ _ (λ e. c .if5 .taken (e ∙ sym (c .before .before .tail-len .ensures))) in
+    sym (past (c .before .before .before) ∙ simp differs)
+
+slice-aggregate-zero-from : tie.Need-slice-aggregate-zero-from
+slice-aggregate-zero-from c = sym (tail-length (c .before .before .before .before .before .before .before .before .before .before .before .before .before .before))
+
 zero-from-requires : tie.Need-zero-from-requires
 zero-from-requires c κs = search needs
 
-returns-5 : tie.Need-returns-5
-unfolding fits
-returns-5 c =
-    let judged = c .before .before .before .before in
-    let args = judged .before .before .before .before .before .before .before .before .before .args in
-    let within = subst (λ (m : ℕ). args .s .written ≤ m) (judged .before .before .written-limit .ensures) (judged .if4 .left) in
-    simp (eq-eqb _ _ (judged .before .before .before .before .before .before .before .if1 .left), sym (judged .before .before .before .before .before .before .is-width .ensures) ∙ not-false _ (judged .before .before .before .before .before .if2 .left), le-ltb _ _ (judged .before .before .before .if3 .left), le-ltb _ _ within)
-    (c .zero-from .ensures ∙ ap (λ (k : ℕ). allZero (drop k (args .s .tail))) (c .before .tail-len .ensures))
+returns-6 : tie.Need-returns-6
+returns-6 c =
+    let s = c .before .before .before .before .before .before .before .before .before .before .before .before .before .before .before .args .s in
+    let agrees : s .«tail_len» ≡ tailLength (s .total) = c .before .before .before .if5 .left ∙ c .before .before .before .before .before .tail-len .ensures in
+    c .zero-from .ensures ∙ ap (λ (k : ℕ). allZero (drop k (s .tail))) agrees ∙ sym (past (c .before .before .before .before .before .before) ∙ simp (eq-eqb _ _ agrees))
 
 pub fits-spec : {M : Type 1} → statement M
 fits-spec =
@@ -65,7 +80,8 @@ fits-spec =
     returns-3
     written-limit-requires
     returns-4
-    slice-aggregate-zero-from
     tail-len-requires
+    returns-5
+    slice-aggregate-zero-from
     zero-from-requires
-    returns-5)
+    returns-6)

@@ -1,34 +1,34 @@
 -- `stream::tail::absorb` meets its contract.
 -- Assumes nothing.
-use mathlib.Core.Path.{_≡_, refl, ap₂}
-use Prim.Native.Nat.{ℕ, _-_}
+use mathlib.Core.Path.{_≡_, ap, _∙_}
+use Prim.Native.Nat.{ℕ, _+_, _-_, _/_}
 use native.Mathlib.Omega.{arith}
 use lib.ListN.{length, length-take}
 use borrow.Author.Needs.{needs}
 use Rattle.s2v.specs.S2v.{tailLength}
-use Rattle.stream.proofs.Laws.{piece, absorbed}
+use Rattle.stream.specs.State.{passedBlocks}
+use Rattle.stream.proofs.Laws.{Piece, piece, absorbed}
 use Rattle.stream.proofs.tail.absorb.Statement.{statement}
 use Rattle.stream.proofs.tail.absorb.Tie as tie
-
-add-total : tie.Need-add-total
-add-total c = search needs
 
 tail-length : (start : tie.Start) → length (start .args .s .tail) ≡ 31
 tail-length start = search needs
 
-passed-blocks-requires : tie.Need-passed-blocks-requires
-passed-blocks-requires c κs = search needs
+-- what the piece leaves, by the state's own length of its tail
+piece-of : (start : tie.Start) → Piece (start .args .s .total) (length (start .args .piece .now))
+piece-of start = piece (start .args .s .total) (length (start .args .piece .now))
 
-passed-blocks-requires-2 : tie.Need-passed-blocks-requires-2
-passed-blocks-requires-2 c κs = search needs
-
-sub-n : tie.Need-sub-n
-sub-n c =
-    let args = c .before .before .before .before .args in
-    omega (arith, piece (args .s .total) (length (args .piece .now)), c .before .passed-blocks .ensures, c .passed-blocks2 .ensures)
+add-total : tie.Need-add-total
+add-total c = search needs
 
 tail-len-requires : tie.Need-tail-len-requires
 tail-len-requires c κs = search needs
+
+add-n : tie.Need-add-n
+add-n c = omega (arith, piece-of (c .before .before .before), c .before .before .before .pre)
+
+sub-n : tie.Need-sub-n
+sub-n c = omega (arith, piece-of (c .before .before .before), c .before .before .before .pre, c .tail-len .ensures)
 
 sub-chain-text : tie.Need-sub-chain-text
 sub-chain-text c = search needs
@@ -37,15 +37,11 @@ part-chain-text-start : tie.Need-part-chain-text-start
 part-chain-text-start c = search needs
 
 part-chain-text-end : tie.Need-part-chain-text-end
-part-chain-text-end c =
-    let args = c .before .before .before .before .before .before .before .before .before .before .args in
-    omega (arith, tail-length (c .before .before .before .before .before .before .before .before .before .before), piece (args .s .total) (length (args .piece .now)), c .before .before .before .before .before .tail-len .ensures)
+part-chain-text-end c = omega (arith, tail-length (c .before .before .before .before .before .before .before .before), piece-of (c .before .before .before .before .before .before .before .before), c .before .before .before .before .before .before .before .before .pre)
 
 chain-text-requires : tie.Need-chain-text-requires
 chain-text-requires c κs =
-    let args = c .before .before .before .before .before .before .before .before .before .before .before .args in
-    let p = piece (args .s .total) (length (args .piece .now)) in
-    (c .before .before .before .before .before .before .before .before .before .before .before .pre .0, simp length-take (omega (arith, tail-length (c .before .before .before .before .before .before .before .before .before .before .before), p, c .before .before .before .before .before .before .before .before .passed-blocks .ensures, c .before .before .before .before .before .before .before .passed-blocks2 .ensures, c .before .before .before .before .before .before .tail-len .ensures)))
+    (c .before .before .before .before .before .before .before .before .before .pre .0, simp length-take (omega (arith, tail-length (c .before .before .before .before .before .before .before .before .before), piece-of (c .before .before .before .before .before .before .before .before .before), c .before .before .before .before .before .before .before .before .before .pre, c .before .before .before .before .before .before .tail-len .ensures)))
 
 sub-tail-joined : tie.Need-sub-tail-joined
 sub-tail-joined c = search needs
@@ -54,42 +50,35 @@ part-tail-joined-start : tie.Need-part-tail-joined-start
 part-tail-joined-start c = search needs
 
 part-tail-joined-end : tie.Need-part-tail-joined-end
-part-tail-joined-end c =
-    let args = c .before .before .before .before .before .before .before .before .before .before .before .before .before .args in
-    omega (arith, tail-length (c .before .before .before .before .before .before .before .before .before .before .before .before .before), piece (args .s .total) (length (args .piece .now)), c .before .before .before .before .before .before .before .before .tail-len .ensures)
+part-tail-joined-end c = omega (arith, tail-length (c .before .before .before .before .before .before .before .before .before .before .before), piece-of (c .before .before .before .before .before .before .before .before .before .before .before), c .before .before .before .before .before .before .before .before .before .before .before .pre)
 
 mul-tail-joined : tie.Need-mul-tail-joined
-mul-tail-joined c =
-    let args = c .before .before .before .before .before .before .before .before .before .before .before .before .before .before .args in
-    omega (arith, c .before .before .before .before .before .before .before .before .before .before .before .before .before .before .pre .1, piece (args .s .total) (length (args .piece .now)), c .before .before .before .before .before .before .before .before .before .before .before .passed-blocks .ensures, c .before .before .before .before .before .before .before .before .before .before .passed-blocks2 .ensures)
-
-tail-len-requires-2 : tie.Need-tail-len-requires-2
-tail-len-requires-2 c κs = search needs
+mul-tail-joined c = omega (arith, piece-of (c .before .before .before .before .before .before .before .before .before .before .before .before), c .before .before .before .before .before .before .before .before .before .before .before .before .pre, c .before .before .before .before .before .before .before .before .before .tail-len .ensures)
 
 tail-joined-requires : tie.Need-tail-joined-requires
-tail-joined-requires c κs =
-    let args = c .before .before .before .before .before .before .before .before .before .before .before .before .before .before .before .args in
-    let p = piece (args .s .total) (length (args .piece .now)) in (
-      simp length-take (omega (arith, tail-length (c .before .before .before .before .before .before .before .before .before .before .before .before .before .before .before), p, c .before .before .before .before .before .before .before .before .before .before .before .before .passed-blocks .ensures, c .before .before .before .before .before .before .before .before .before .before .before .passed-blocks2 .ensures, c .before .before .before .before .before .before .before .before .before .before .tail-len .ensures, c .tail-len2 .ensures)),
-      omega (arith, p, c .tail-len2 .ensures),
-    )
+tail-joined-requires c κs = (
+  simp length-take (omega (arith, tail-length (c .before .before .before .before .before .before .before .before .before .before .before .before), piece-of (c .before .before .before .before .before .before .before .before .before .before .before .before), c .before .before .before .before .before .before .before .before .before .before .before .before .pre, c .before .before .before .before .before .before .before .before .before .tail-len .ensures)),
+  omega (arith, piece-of (c .before .before .before .before .before .before .before .before .before .before .before .before), c .before .before .before .before .before .before .before .before .before .tail-len .ensures),
+)
 
 returns : tie.Need-returns
 returns c =
-    let args = c .before .before .before .before .before .before .before .before .before .before .before .before .before .before .before .before .args in
-    let used : c .before .before .before .before .before .before .before .before .before .before .before .tail-len .result - 0 ≡ tailLength (args .s .total) = omega (arith, c .before .before .before .before .before .before .before .before .before .before .before .tail-len .ensures) in
-    absorbed (args .s) (args .piece .now) refl (ap₂ (λ (a b : ℕ). a - b) (c .before .before .before .before .before .before .before .before .before .before .before .before .before .passed-blocks .ensures) (c .before .before .before .before .before .before .before .before .before .before .before .before .passed-blocks2 .ensures)) used
-    (c .before .before .before .before .chain-text .ensures) (c .tail-joined .ensures)
+    let start = c .before .before .before .before .before .before .before .before .before .before .before .before .before in
+    let s = start .args .s in
+    let text = start .args .piece .now in
+    let left = c .before .before .before .before .before .before .before .before .before .before .tail-len in
+    let count : (s .«tail_len» + length text - left .result) / 16 ≡ passedBlocks (s .total + length text) - passedBlocks (s .total) = omega (arith, piece-of start, start .pre, left .ensures) in
+    let used : s .«tail_len» - 0 ≡ tailLength (s .total) = omega (arith, start .pre) in
+    absorbed s text (left .ensures) count used (c .before .before .before .chain-text .ensures) (c .tail-joined .ensures)
 
 pub absorb-spec : {M : Type 1} → statement M
 absorb-spec =
     tie.close
     (tie.spec
     add-total
-    passed-blocks-requires
-    passed-blocks-requires-2
-    sub-n
     tail-len-requires
+    add-n
+    sub-n
     sub-chain-text
     part-chain-text-start
     part-chain-text-end
@@ -98,6 +87,5 @@ absorb-spec =
     part-tail-joined-start
     part-tail-joined-end
     mul-tail-joined
-    tail-len-requires-2
     tail-joined-requires
     returns)

@@ -19,9 +19,6 @@ tail-length start = search needs
 engine-requires : tie.Need-engine-requires
 engine-requires c κs = search needs
 
-tail-len-requires : tie.Need-tail-len-requires
-tail-len-requires c κs = search needs
-
 make-subkeys-requires : tie.Need-make-subkeys-requires
 make-subkeys-requires c κs = search needs
 
@@ -32,20 +29,18 @@ part-tag-from-start : tie.Need-part-tag-from-start
 part-tag-from-start c = search needs
 
 part-tag-from-end : tie.Need-part-tag-from-end
-part-tag-from-end c =
-    let args = c .before .before .before .before .before .before .before .before .before .before .before .args in
-    omega (arith, tail-length (c .before .before .before .before .before .before .before .before .before .before .before), cut (args .s .total), c .before .before .before .before .tail-len .ensures)
+part-tag-from-end c = omega (arith, tail-length (c .before .before .before .before .before .before .before .before .before .before), cut (c .before .before .before .before .before .before .before .before .before .before .args .s .total), c .before .before .before .before .before .before .before .before .before .before .pre)
 
 tag-from-requires : tie.Need-tag-from-requires
 tag-from-requires c κs =
-    let args = c .before .before .before .before .before .before .before .before .before .before .before .before .args in
-    (search needs, c .before .before .before .before .before .before .before .before .before .before .before .before .pre, simp length-take (omega (arith, tail-length (c .before .before .before .before .before .before .before .before .before .before .before .before))))
+    (search needs, c .before .before .before .before .before .before .before .before .before .before .before .pre .0, simp length-take (omega (arith, tail-length (c .before .before .before .before .before .before .before .before .before .before .before))))
 
 returns : tie.Need-returns
 unfolding tagOfState
 returns c =
-    let s = c .before .before .before .before .before .before .before .before .before .before .before .before .before .args .s in
-    let used : c .before .before .before .before .before .before .tail-len .result - 0 ≡ tailLength (s .total) = omega (arith, c .before .before .before .before .before .before .tail-len .ensures) in
+    let start = c .before .before .before .before .before .before .before .before .before .before .before .before in
+    let s = start .args .s in
+    let used : s .«tail_len» - 0 ≡ tailLength (s .total) = omega (arith, start .pre) in
     c .tag-from .ensures
     ∙ ap₂ (λ (k : Subkeys) (n : ℕ). tagFrom (cipher (s .width) (s .«mac_keys»)) k (s .d) (s .chain) (take n (s .tail))) (c .before .before .before .before .before .make-subkeys .ensures) used
 
@@ -54,7 +49,6 @@ tag-of-state-spec =
     tie.close
     (tie.spec
     engine-requires
-    tail-len-requires
     make-subkeys-requires
     sub-tag-from
     part-tag-from-start
