@@ -9,3 +9,4 @@ pub mod Head
 pub mod Pieces
 pub mod Steps
 pub mod Third
+pub mod Tail

@@ -23,34 +23,26 @@ use Rattle.stream.specs.declared.Stream.{Stream}
 use Rattle.stream.specs.State.{ended, fits, added, tagOfState}
 use Rattle.stream.specs.Steps.{StepResult, doneStep, refusedStep, settle, feedRows, turned, streamedAt, addStep, turnStep, writeStep, closeStep, feedStep, finishStep}
 use Rattle.demands.specs.Model.{ModelState, wants, After, wholeAccepts, shown, outputBefore, outputAfter, modelAfter, countAfter, modelStep}
-use Rattle.demands.specs.Run.{Begin, sealer, opener, Call, add, turn, write, close, feed, finish, call, sharedAfter}
+use Rattle.demands.specs.Run.{Begin, sealer, opener, Call, add, turn, write, close, feed, finish, call, lent, sharedAfter}
 use Rattle.demands.specs.Whole.{Admits}
 use Rattle.demands.proofs.Pieces.{stateOf, join, fits-state, tag-state, stream-state, streamed-append, streamed-rest}
 use Rattle.demands.proofs.Whole.{judged}
 
 -- ---- a call in a stage that it does not want
 
--- the output lent to a call
-abbrev lent : List ℕ → Call → List ℕ
-lent shared (add piece) = []
-lent shared (turn output) = output
-lent shared (write piece output) = output
-lent shared close = []
-lent shared (feed piece) = shared
-lent shared finish = shared
-
 misfit : (wanted : ℕ) (s : Stream) → eqb (s .stage) wanted ≡ false → fits wanted s ≡ false
 unfolding fits
 misfit wanted s e = simp e
 
-call-wrong : (s : Stream) (o : List ℕ) (c : Call) → eqb (s .stage) (wants c) ≡ false → call s o c ≡ refusedStep 9 s (lent o c)
+-- a call on a state that does not fit it
+pub call-misfit : (s : Stream) (o : List ℕ) (c : Call) → fits (wants c) s ≡ false → call s o c ≡ refusedStep 9 s (lent o c)
 unfolding addStep turnStep writeStep closeStep feedStep finishStep
-call-wrong s o (add piece) e = simp (misfit 1 s e)
-call-wrong s o (turn output) e = simp (misfit 1 s e)
-call-wrong s o (write piece output) e = simp (misfit 2 s e)
-call-wrong s o close e = simp (misfit 2 s e)
-call-wrong s o (feed piece) e = simp (misfit 3 s e)
-call-wrong s o finish e = simp (misfit 3 s e)
+call-misfit s o (add piece) e = simp e
+call-misfit s o (turn output) e = simp e
+call-misfit s o (write piece output) e = simp e
+call-misfit s o close e = simp e
+call-misfit s o (feed piece) e = simp e
+call-misfit s o finish e = simp e
 
 unchanged : (o : List ℕ) (c : Call) → sharedAfter o c (lent o c) ≡ o
 unchanged o (add piece) = refl
@@ -147,7 +139,7 @@ module _ (key bytes lens shared : List ℕ) (a : Admits key bytes lens) where
 
   wrong : (begin : Begin) (b : ModelState) (s : Stream) (o : List ℕ) (c : Call) → Known key bytes lens shared begin b s o → eqb (b .stage) (wants c) ≡ false → Steps begin b s o c
   wrong begin b s o c k e =
-      steps begin b s o c (refusedStep 9 s (lent o c)) (refusedAfter begin b c 9) (call-wrong s o c (ap (λ (n : ℕ). eqb n (wants c)) (known-stage begin b s o k) ∙ e)) (model-wrong begin b c e)
+      steps begin b s o c (refusedStep 9 s (lent o c)) (refusedAfter begin b c 9) (call-misfit s o c (misfit (wants c) s (ap (λ (n : ℕ). eqb n (wants c)) (known-stage begin b s o k) ∙ e))) (model-wrong begin b c e)
       (ap (λ (l : List ℕ). record { outcome = withoutLength 9; output = l }) (lent-before begin b o c (known-shown begin b s o k)))
       (subst (Known key bytes lens shared begin b s) (sym (unchanged o c)) k)
 

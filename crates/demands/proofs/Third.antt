@@ -66,11 +66,11 @@ module _ (key bytes lens : List ℕ) (a : Admits key bytes lens) where
       ∙ ap (λ (s : Stream). doneStep 0 s []) (begin-state key (strings bytes lens) 3 T)
 
   module _ (shared : List ℕ) where
-    sealer-known : (start : Start) → Known key bytes lens shared sealer (fresh sealer) (begun key bytes lens start sealer .state) shared
+    pub sealer-known : (start : Start) → Known key bytes lens shared sealer (fresh sealer) (begun key bytes lens start sealer .state) shared
     sealer-known start =
         subst (λ (r : StepResult). Known key bytes lens shared sealer (fresh sealer) (r .state) shared) (sym (sealer-begins start)) (adding [] (omega arith))
 
-    opener-known : (start : Start) (T : List ℕ) → length T ≡ 16 → Known key bytes lens shared (opener T) (fresh (opener T)) (begun key bytes lens start (opener T) .state) shared
+    pub opener-known : (start : Start) (T : List ℕ) → length T ≡ 16 → Known key bytes lens shared (opener T) (fresh (opener T)) (begun key bytes lens start (opener T) .state) shared
     opener-known start T t =
         subst (λ (r : StepResult). Known key bytes lens shared (opener T) (fresh (opener T)) (r .state) shared) (sym (opener-begins start T t))
         (subst (Known key bytes lens shared (opener T) (fresh (opener T)) (stateOf key (strings bytes lens) 3 T 0 [])) (ap (put shared 0) (streamed-nil key T) ∙ put-nil shared)
@@ -79,7 +79,7 @@ module _ (key bytes lens : List ℕ) (a : Admits key bytes lens) where
 
     -- ---- any list of calls
 
-    runs : (begin : Begin) (calls : List Call) (b : ModelState) (s : Stream) (o : List ℕ) → Known key bytes lens shared begin b s o
+    pub runs : (begin : Begin) (calls : List Call) (b : ModelState) (s : Stream) (o : List ℕ) → Known key bytes lens shared begin b s o
         → (run s o calls .entries ≡ modelRun key bytes lens begin shared b calls .entries)
         × Known key bytes lens shared begin (modelRun key bytes lens begin shared b calls .model) (run s o calls .state) (run s o calls .shared)
     runs begin [] b s o k = (refl, k)

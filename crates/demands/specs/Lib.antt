@@ -6,3 +6,4 @@ pub mod Run
 pub mod Head
 pub mod Model
 pub mod Third
+pub mod Tail

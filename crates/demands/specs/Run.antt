@@ -62,6 +62,15 @@ call s shared close = closeStep s
 call s shared (feed piece) = feedStep s piece shared
 call s shared finish = finishStep s shared
 
+-- the output lent to a call; add and close are lent none
+abbrev pub lent : List ℕ → Call → List ℕ
+lent shared (add piece) = []
+lent shared (turn output) = output
+lent shared (write piece output) = output
+lent shared close = []
+lent shared (feed piece) = shared
+lent shared finish = shared
+
 -- the shared output after a call that left `last` in the output lent to it
 abbrev pub sharedAfter : List ℕ → Call → List ℕ → List ℕ
 sharedAfter shared (add piece) last = shared
@@ -82,10 +91,14 @@ pub record Run : Type 0 where
   pub state : Stream
   pub shared : List ℕ
 
--- each call gets the state that the last one returned, and feed and finish the output as the last one left it
-abbrev pub run : Stream → List ℕ → List Call → Run
-run s shared [] = record { entries = []; state = s; shared = shared }
-run s shared (c ∷ cs) =
-    let r = call s shared c in
-    let rest = run (r .state) (sharedAfter shared c (r .output)) cs in
+-- each call gets the state that the last one returned, and feed and finish the output as the last one left it; `gives` says what a call gives
+abbrev pub runBy : (Stream → List ℕ → Call → StepResult) → Stream → List ℕ → List Call → Run
+runBy gives s shared [] = record { entries = []; state = s; shared = shared }
+runBy gives s shared (c ∷ cs) =
+    let r = gives s shared c in
+    let rest = runBy gives (r .state) (sharedAfter shared c (r .output)) cs in
     record { entries = record { outcome = r .outcome; output = r .output } ∷ rest .entries; state = rest .state; shared = rest .shared }
+
+-- by the calls' definitions
+abbrev pub run : Stream → List ℕ → List Call → Run
+run = runBy call

@@ -4,6 +4,7 @@ ghost use mathlib.Core.Bool.{not, _&&_};
 ghost use Prim.Native.Nat.{_+_, _≤_};
 ghost use lib.Dec.{eqb, ltb};
 ghost use lib.ListN.{length, drop};
+ghost use Rattle.s2v.specs.S2v.{tailLength};
 ghost use Rattle.siv.specs.Answer.{outcomeOf, first, withoutLength};
 ghost use Rattle.stream.specs.State.{allZero, writtenLimit, fits};
 ghost use Rattle.stream.specs.Steps.{addRows, turnRows, writeRows, feedRows, finishRows};
@@ -35,6 +36,13 @@ fn written_limit(stage: u8, total: usize) -> usize
     0
 }
 
+// Whether a number is the tail's length at a total.
+fn is_tail_len(n: usize, total: usize) -> bool
+    ensures { λ r. ⌜ r ≡ eqb n (tailLength total) ⌝ }
+{
+    n == s2v::tail_len(total)
+}
+
 // Whether a state is one for a call that wants a stage.
 fn fits(wanted: u8, s: Stream) -> bool
     ensures { λ r. ⌜ r ≡ fits wanted s ⌝ }
@@ -51,7 +59,7 @@ fn fits(wanted: u8, s: Stream) -> bool
     if written_limit(wanted, s.total) < s.written {
         return false;
     }
-    if s.tail_len != s2v::tail_len(s.total) {
+    if !is_tail_len(s.tail_len, s.total) {
         return false;
     }
     let tail = s.tail;

@@ -1,12 +1,12 @@
 -- `stream::judge::fits` meets its contract.
 -- Assumes nothing.
 use mathlib.Core.Path.{subst, ap, _∙_, _≡_, sym}
-use mathlib.Core.Bool.{_&&_}
+use mathlib.Core.Bool.{true, false, _&&_}
 use Prim.Native.Nat.{ℕ, _≤_, _<_}
 use lib.Dec.{eqb}
 use lib.ListN.{drop, length}
 use borrow.Author.Needs.{needs}
-use borrow.Author.Tests.{not-true, not-false, eq-eqb, ne-eqb, lt-ltb, le-ltb}
+use borrow.Author.Tests.{eqb-true, not-true, not-false, eq-eqb, ne-eqb, lt-ltb, le-ltb}
 use Rattle.s2v.specs.S2v.{tailLength}
 use Rattle.stream.specs.State.{allZero, fits}
 use Rattle.stream.proofs.judge.fits.Statement.{statement}
@@ -50,25 +50,26 @@ past c =
     let within = subst (λ (m : ℕ). args .s .written ≤ m) (c .before .before .written-limit .ensures) (c .if4 .left) in
     simp (eq-eqb _ _ (c .before .before .before .before .before .before .before .if1 .left), sym (c .before .before .before .before .before .before .is-width .ensures) ∙ not-false _ (c .before .before .before .before .before .if2 .left), le-ltb _ _ (c .before .before .before .if3 .left), le-ltb _ _ within)
 
-tail-len-requires : tie.Need-tail-len-requires
-tail-len-requires c κs = search needs
+is-tail-len-requires : tie.Need-is-tail-len-requires
+is-tail-len-requires c κs = search needs
 
 returns-5 : tie.Need-returns-5
 returns-5 c =
-    let differs = ne-eqb _ _ (λ e. c .if5 .taken (e ∙ sym (c .before .before .tail-len .ensures))) in
-    sym (past (c .before .before .before) ∙ simp differs)
+    let s = c .before .before .before .before .before .before .before .before .before .before .before .args .s in
+    let differs : eqb (s .«tail_len») (tailLength (s .total)) ≡ false = sym (c .before .is-tail-len .ensures) ∙ not-true _ (c .if5 .taken) in
+    sym (past (c .before .before) ∙ simp differs)
 
 slice-aggregate-zero-from : tie.Need-slice-aggregate-zero-from
-slice-aggregate-zero-from c = sym (tail-length (c .before .before .before .before .before .before .before .before .before .before .before .before .before .before))
+slice-aggregate-zero-from c = sym (tail-length (c .before .before .before .before .before .before .before .before .before .before .before .before .before))
 
 zero-from-requires : tie.Need-zero-from-requires
 zero-from-requires c κs = search needs
 
 returns-6 : tie.Need-returns-6
 returns-6 c =
-    let s = c .before .before .before .before .before .before .before .before .before .before .before .before .before .before .before .args .s in
-    let agrees : s .«tail_len» ≡ tailLength (s .total) = c .before .before .before .if5 .left ∙ c .before .before .before .before .before .tail-len .ensures in
-    c .zero-from .ensures ∙ ap (λ (k : ℕ). allZero (drop k (s .tail))) agrees ∙ sym (past (c .before .before .before .before .before .before) ∙ simp (eq-eqb _ _ agrees))
+    let s = c .before .before .before .before .before .before .before .before .before .before .before .before .before .before .args .s in
+    let agrees : eqb (s .«tail_len») (tailLength (s .total)) ≡ true = sym (c .before .before .before .before .is-tail-len .ensures) ∙ not-false _ (c .before .before .before .if5 .left) in
+    c .zero-from .ensures ∙ ap (λ (k : ℕ). allZero (drop k (s .tail))) (eqb-true (s .«tail_len») (tailLength (s .total)) agrees) ∙ sym (past (c .before .before .before .before .before) ∙ simp agrees)
 
 pub fits-spec : {M : Type 1} → statement M
 fits-spec =
@@ -80,7 +81,7 @@ fits-spec =
     returns-3
     written-limit-requires
     returns-4
-    tail-len-requires
+    is-tail-len-requires
     returns-5
     slice-aggregate-zero-from
     zero-from-requires

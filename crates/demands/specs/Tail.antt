@@ -1,0 +1,116 @@
+-- Slip 4 of document 02: the length of the hold is a field of the state, by document 01's rule; every other answer is what it was without the field.
+-- Assumes nothing.
+use mathlib.Core.Path.{_≡_}
+use mathlib.Core.Bool.{Bool, not, cond, _&&_}
+use mathlib.Core.List.{List, [], _∷_}
+use Prim.Native.Nat.{ℕ, _+_}
+use lib.Dec.{eqb, ltb}
+use lib.ListN.{length, drop, replicate}
+use Rattle.octets.specs.Octets.{put, same}
+use Rattle.aes.specs.Aes.{isWidth}
+use Rattle.s2v.specs.S2v.{tailLength}
+use Rattle.siv.specs.Answer.{row, first}
+use Rattle.siv.specs.Calls.{limit}
+use Rattle.head.specs.declared.Head.{Head}
+use Rattle.stream.specs.declared.Stream.{Stream}
+use Rattle.stream.specs.State.{ended, allZero, writtenLimit, added, tagOfState}
+use Rattle.stream.specs.Steps.{StepResult, doneStep, refusedStep, settle, turned, wrote, streamedAt}
+use Rattle.demands.specs.Model.{ModelState}
+use Rattle.demands.specs.Run.{Begin, sealer, opener, Start, Call, add, turn, write, close, feed, finish, begunFrom, begun, call, lent, Run, runBy, run}
+use Rattle.demands.specs.Third.{expected, ran}
+use Rattle.demands.specs.Whole.{Admits}
+
+-- a state with n in the field, and nothing else changed
+abbrev pub withTailLen : ℕ → Stream → Stream
+withTailLen n s =
+    record {
+      stage = s .stage;
+      width = s .width;
+      «mac_keys» = s .«mac_keys»;
+      «ctr_keys» = s .«ctr_keys»;
+      l = s .l;
+      d = s .d;
+      chain = s .chain;
+      v = s .v;
+      total = s .total;
+      written = s .written;
+      «tail_len» = n;
+      tail = s .tail;
+    }
+
+-- the field is the rule's figure for the state's total
+abbrev pub Told : Stream → Type 0
+Told s = s .«tail_len» ≡ tailLength (s .total)
+
+-- two states are the same but for the field
+abbrev pub AlikeBut : Stream → Stream → Type 0
+AlikeBut s t = withTailLen 0 s ≡ withTailLen 0 t
+
+-- ---- the calls as they were
+
+-- what 9 judged of a state
+unfoldable pub formerFits : ℕ → Stream → Bool
+formerFits wanted s =
+    eqb (s .stage) wanted
+    && isWidth (s .width)
+    && not (ltb limit (s .total))
+    && not (ltb (writtenLimit wanted (s .total)) (s .written))
+    && allZero (drop (tailLength (s .total)) (s .tail))
+
+-- each call with its refusals; what the field holds is nothing to any of them
+unfoldable pub formerCall : Stream → List ℕ → Call → StepResult
+formerCall s shared (add piece) =
+    settle (first (row 9 (not (formerFits 1 s)) ∷ row 4 (ltb limit (s .total + length piece)) ∷ [])) (doneStep 0 (added s piece) []) s []
+formerCall s shared (turn output) =
+    settle (first (row 9 (not (formerFits 1 s)) ∷ row 6 (ltb (length output) 16) ∷ []))
+    (doneStep 16 (turned s (tagOfState s)) (put output 0 (tagOfState s))) s output
+formerCall s shared (write piece output) =
+    settle
+    (first (row 9 (not (formerFits 2 s)) ∷ row 4 (ltb (s .total) (s .written + length piece)) ∷ row 6 (ltb (length output) (length piece)) ∷ []))
+    (doneStep (length piece) (wrote s (length piece)) (put output 0 (streamedAt s (s .written) piece))) s output
+formerCall s shared close = settle (first (row 9 (not (formerFits 2 s && not (ltb (s .written) (s .total)))) ∷ [])) (doneStep 0 ended []) s []
+formerCall s shared (feed piece) =
+    let p = streamedAt s (s .total) piece in
+    settle
+    (first (row 9 (not (formerFits 3 s)) ∷ row 4 (ltb limit (s .total + length piece)) ∷ row 6 (ltb (length shared) (s .total + length piece)) ∷ []))
+    (doneStep (length piece) (added s p) (put shared (s .total) p)) s shared
+formerCall s shared finish =
+    let n = first (row 9 (not (formerFits 3 s)) ∷ row 6 (ltb (length shared) (s .total)) ∷ row 8 (not (same (tagOfState s) (s .v))) ∷ []) in
+    cond (eqb n 8) (refusedStep 8 ended (put shared 0 (replicate (s .total) 0))) (settle n (doneStep (s .total) ended shared) s shared)
+
+-- ---- what may be relied on
+
+-- number, length and output are the same, and the state but for the field
+pub record SameStep (a b : StepResult) : Type 0 where
+  pub outcome : a .outcome ≡ b .outcome
+  pub state : AlikeBut (a .state) (b .state)
+  pub output : a .output ≡ b .output
+
+-- a list of calls: all numbers, lengths and outputs are the same, and the state but for the field
+pub record SameRun (a b : Run) : Type 0 where
+  pub entries : a .entries ≡ b .entries
+  pub state : AlikeBut (a .state) (b .state)
+  pub shared : a .shared ≡ b .shared
+
+-- the rule's figure for the bytes that were added or fed, by what the model keeps; zero in stage 0
+abbrev pub tailLenBy : ModelState → ℕ
+tailLenBy b = cond (eqb (b .stage) 0) 0 (tailLength (length (b .A)))
+
+-- What a user of the field may rely on.
+pub record TailShown : Type 0 where
+  -- any call on any state with the rule's figure gives what it gave without the field, whatever stands in the field's place there
+  pub unchanged : (s : Stream) (n : ℕ) (shared : List ℕ) (c : Call) → Told s → SameStep (call s shared c) (formerCall (withTailLen n s) shared c)
+  -- and so does any list of calls
+  pub lists : (s : Stream) (n : ℕ) (shared : List ℕ) (calls : List Call) → Told s → SameRun (run s shared calls) (runBy formerCall (withTailLen n s) shared calls)
+  -- any other figure gives 9, and state and output are as they were
+  pub refused : (s : Stream) (shared : List ℕ) (c : Call) → (Told s → ⊥) → call s shared c ≡ refusedStep 9 s (lent shared c)
+  -- every state that a begin gives has the rule's figure, whatever key, head, list and tag are, and whether it was refused or not
+  pub begins : (key bytes lens : List ℕ) (start : Start) (begin : Begin) → Told (begun key bytes lens start begin .state)
+  pub beginsFrom : (h : Head) (bytes lens : List ℕ) (begin : Begin) → Told (begunFrom h bytes lens begin .state)
+  -- and no list of calls loses it
+  pub stays : (s : Stream) (shared : List ℕ) (calls : List Call) → Told s → Told (run s shared calls .state)
+  -- for a key and header list that document 01 admits, it is the figure for what was added, or fed
+  pub added : (key bytes lens : List ℕ) → Admits key bytes lens → (start : Start) (shared : List ℕ) (calls : List Call)
+      → ran key bytes lens sealer shared calls start .state .«tail_len» ≡ tailLenBy (expected key bytes lens sealer shared calls .model)
+  pub fed : (key bytes lens : List ℕ) → Admits key bytes lens → (start : Start) (T shared : List ℕ) (calls : List Call) → length T ≡ 16
+      → ran key bytes lens (opener T) shared calls start .state .«tail_len» ≡ tailLenBy (expected key bytes lens (opener T) shared calls .model)
