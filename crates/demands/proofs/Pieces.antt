@@ -26,9 +26,9 @@ use Rattle.siv.specs.Siv.{macKey, ctrKey, tagOf, streamed}
 use Rattle.siv.proofs.Laws.{KeyHalves, halves, aes-cipher}
 use Rattle.head.specs.Head.{headOf}
 use Rattle.stream.specs.declared.Stream.{Stream}
-use Rattle.stream.specs.State.{start, allZero, writtenLimit, fits, usedTail, tailOf, passedBlocks, added, tagOfState}
+use Rattle.stream.specs.State.{start, allZero, writtenLimit, fits, usedTail, tailOf, passedBlocks, stateWith, added, tagOfState}
 use Rattle.stream.specs.Steps.{streamedAt}
-use Rattle.stream.proofs.Laws.{stateWith, Cut, cut, passed-more}
+use Rattle.stream.proofs.Laws.{Cut, cut, passed-more}
 use Rattle.siv.proofs.Laws.{length-streamed}
 
 with-same : (s : Stream) {c c′ : List ℕ} {n n′ : ℕ} {t t′ : List ℕ} → c ≡ c′ → n ≡ n′ → t ≡ t′ → stateWith s c n (tailLength n) t ≡ stateWith s c′ n′ (tailLength n′) t′

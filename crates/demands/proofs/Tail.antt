@@ -85,21 +85,24 @@ told-ended : Told ended
 unfolding tailLength
 told-ended = refl
 
+told-by : {r q : StepResult} → r ≡ q → Told (q .state) → Told (r .state)
+told-by {r} {q} e t = subst (λ (x : StepResult). Told (x .state)) (sym e) t
+
 -- by the first demand a call leaves the complete result's state or the one that it was given
 told-step : {table : List Row} {result complete : StepResult} {s : Stream} {o : List ℕ} → FirstStep table result complete s o → Told (complete .state) → Told s → Told (result .state)
 told-step {result = result} f d e = go (ℕ-discrete (result .outcome .number) 0)
   where
     go : Dec (result .outcome .number ≡ 0) → Told (result .state)
-    go (yes z) = subst (λ (r : StepResult). Told (r .state)) (sym (f .done z)) d
-    go (no z) = subst (λ (r : StepResult). Told (r .state)) (sym (f .refused _ refl z)) e
+    go (yes z) = told-by (f .done z) d
+    go (no z) = told-by (f .refused _ refl z) e
 
 told-finish : {s : Stream} {o : List ℕ} → FirstFinish s o → Told s → Told (finishStep s o .state)
 told-finish {s} {o} f e = go (ℕ-discrete (finishStep s o .outcome .number) 0) (ℕ-discrete (finishStep s o .outcome .number) 8)
   where
     go : Dec (finishStep s o .outcome .number ≡ 0) → Dec (finishStep s o .outcome .number ≡ 8) → Told (finishStep s o .state)
-    go (yes z) k = subst (λ (r : StepResult). Told (r .state)) (sym (f .done z)) told-ended
-    go (no z) (yes k) = subst (λ (r : StepResult). Told (r .state)) (sym (f .forged k)) told-ended
-    go (no z) (no k) = subst (λ (r : StepResult). Told (r .state)) (sym (f .refused _ refl z k)) e
+    go (yes z) k = told-by (f .done z) told-ended
+    go (no z) (yes k) = told-by (f .forged k) told-ended
+    go (no z) (no k) = told-by (f .refused _ refl z k) e
 
 told-call : (s : Stream) (o : List ℕ) (c : Call) → Told s → Told (call s o c .state)
 unfolding added

@@ -13,7 +13,7 @@ use Rattle.siv.specs.Answer.{row, first}
 use Rattle.siv.specs.Calls.{limit}
 use Rattle.head.specs.declared.Head.{Head}
 use Rattle.stream.specs.declared.Stream.{Stream}
-use Rattle.stream.specs.State.{ended, allZero, writtenLimit, added, tagOfState}
+use Rattle.stream.specs.State.{ended, allZero, writtenLimit, stateWith, added, tagOfState}
 use Rattle.stream.specs.Steps.{StepResult, doneStep, refusedStep, settle, turned, wrote, streamedAt}
 use Rattle.demands.specs.Model.{ModelState}
 use Rattle.demands.specs.Run.{Begin, sealer, opener, Start, Call, add, turn, write, close, feed, finish, begunFrom, begun, call, lent, Run, runBy, run}
@@ -22,21 +22,7 @@ use Rattle.demands.specs.Whole.{Admits}
 
 -- a state with n in the field, and nothing else changed
 abbrev pub withTailLen : ℕ → Stream → Stream
-withTailLen n s =
-    record {
-      stage = s .stage;
-      width = s .width;
-      «mac_keys» = s .«mac_keys»;
-      «ctr_keys» = s .«ctr_keys»;
-      l = s .l;
-      d = s .d;
-      chain = s .chain;
-      v = s .v;
-      total = s .total;
-      written = s .written;
-      «tail_len» = n;
-      tail = s .tail;
-    }
+withTailLen n s = stateWith s (s .chain) (s .total) n (s .tail)
 
 -- the field is the rule's figure for the state's total
 abbrev pub Told : Stream → Type 0
@@ -46,9 +32,9 @@ Told s = s .«tail_len» ≡ tailLength (s .total)
 abbrev pub AlikeBut : Stream → Stream → Type 0
 AlikeBut s t = withTailLen 0 s ≡ withTailLen 0 t
 
--- ---- the calls as they were
+-- ---- the calls without the field
 
--- what 9 judged of a state
+-- what 9 judges then
 unfoldable pub formerFits : ℕ → Stream → Bool
 formerFits wanted s =
     eqb (s .stage) wanted
@@ -57,7 +43,7 @@ formerFits wanted s =
     && not (ltb (writtenLimit wanted (s .total)) (s .written))
     && allZero (drop (tailLength (s .total)) (s .tail))
 
--- each call with its refusals; what the field holds is nothing to any of them
+-- each call with its refusals: what the field holds is nothing to any of them
 unfoldable pub formerCall : Stream → List ℕ → Call → StepResult
 formerCall s shared (add piece) =
     settle (first (row 9 (not (formerFits 1 s)) ∷ row 4 (ltb limit (s .total + length piece)) ∷ [])) (doneStep 0 (added s piece) []) s []

@@ -32,7 +32,7 @@ use Rattle.head.specs.Head.{MakeResult, DidMake, settleHead}
 use Rattle.head.proofs.Laws.{settle-made, settle-refused}
 use Rattle.stream.specs.declared.Step.{Step}
 use Rattle.stream.specs.declared.Stream.{Stream}
-use Rattle.stream.specs.State.{allZero, writtenLimit, fits, passedBlocks, tailOf, added, ended, tagOfState}
+use Rattle.stream.specs.State.{allZero, writtenLimit, fits, passedBlocks, tailOf, stateWith, added, ended, tagOfState}
 use Rattle.stream.specs.Steps.{StepResult, DidStep, refusedStep, settle, beginBy, tagRows, streamedAt, finishStep, addRows, turnRows, writeRows, feedRows, finishRows, finishTable}
 
 -- ---- parts of two joined strings
@@ -189,24 +189,6 @@ piece total n =
     let b : Cut (total + n) = cut (total + n) in
     let h : passedBlocks total ≤ passedBlocks (total + n) = passed-more total n in
     record { more = h; count = omega arith; used = omega arith; left = b .short; leaves = omega arith }
-
--- a state with another chain, total, and tail with its length
-abbrev pub stateWith : Stream → List ℕ → ℕ → ℕ → List ℕ → Stream
-stateWith s c total left rest =
-    record {
-      stage = s .stage;
-      width = s .width;
-      «mac_keys» = s .«mac_keys»;
-      «ctr_keys» = s .«ctr_keys»;
-      l = s .l;
-      d = s .d;
-      chain = c;
-      v = s .v;
-      total = total;
-      written = s .written;
-      «tail_len» = left;
-      tail = rest;
-    }
 
 -- the state that the code puts together is the one with the piece
 pub absorbed : (s : Stream) (text : List ℕ) {left n used : ℕ} {c rest : List ℕ} → left ≡ tailLength (s .total + length text) → n ≡ passedBlocks (s .total + length text) - passedBlocks (s .total)

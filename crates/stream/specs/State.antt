@@ -81,11 +81,9 @@ tailOf t = put (replicate 31 0) 0 t
 unfoldable pub passedBlocks : ℕ → ℕ
 passedBlocks n = (n - tailLength n) / 16
 
--- the state with a piece of plaintext more: whole blocks go from the tail into the chain until a tail's length is left
-unfoldable pub added : Stream → List ℕ → Stream
-added s piece =
-    let total = s .total + length piece in
-    let n = passedBlocks total - passedBlocks (s .total) in
+-- a state with another chain, total, and tail with its length, and nothing else changed
+abbrev pub stateWith : Stream → List ℕ → ℕ → ℕ → List ℕ → Stream
+stateWith s c total len t =
     record {
       stage = s .stage;
       width = s .width;
@@ -93,13 +91,20 @@ added s piece =
       «ctr_keys» = s .«ctr_keys»;
       l = s .l;
       d = s .d;
-      chain = chain (cipher (s .width) (s .«mac_keys»)) (s .chain) (usedTail s ++ piece) n;
+      chain = c;
       v = s .v;
       total = total;
       written = s .written;
-      «tail_len» = tailLength total;
-      tail = tailOf (drop (16 * n) (usedTail s ++ piece));
+      «tail_len» = len;
+      tail = t;
     }
+
+-- the state with a piece of plaintext more: whole blocks go from the tail into the chain until a tail's length is left
+unfoldable pub added : Stream → List ℕ → Stream
+added s piece =
+    let total = s .total + length piece in
+    let n = passedBlocks total - passedBlocks (s .total) in
+    stateWith s (chain (cipher (s .width) (s .«mac_keys»)) (s .chain) (usedTail s ++ piece) n) total (tailLength total) (tailOf (drop (16 * n) (usedTail s ++ piece)))
 
 -- V of all that was added
 unfoldable pub tagOfState : Stream → List ℕ
