@@ -25,12 +25,12 @@ abbrev pub withTailLen : ℕ → Stream → Stream
 withTailLen n s = stateWith s (s .chain) (s .total) n (s .tail)
 
 -- the field is the rule's figure for the state's total
-abbrev pub Told : Stream → Type 0
-Told s = s .«tail_len» ≡ tailLength (s .total)
+abbrev pub ByRule : Stream → Type 0
+ByRule s = s .«tail_len» ≡ tailLength (s .total)
 
 -- two states are the same but for the field
-abbrev pub AlikeBut : Stream → Stream → Type 0
-AlikeBut s t = withTailLen 0 s ≡ withTailLen 0 t
+abbrev pub SameButTailLen : Stream → Stream → Type 0
+SameButTailLen s t = withTailLen 0 s ≡ withTailLen 0 t
 
 -- ---- the calls without the field
 
@@ -69,13 +69,13 @@ formerCall s shared finish =
 -- number, length and output are the same, and the state but for the field
 pub record SameStep (a b : StepResult) : Type 0 where
   pub outcome : a .outcome ≡ b .outcome
-  pub state : AlikeBut (a .state) (b .state)
+  pub state : SameButTailLen (a .state) (b .state)
   pub output : a .output ≡ b .output
 
 -- a list of calls: all numbers, lengths and outputs are the same, and the state but for the field
 pub record SameRun (a b : Run) : Type 0 where
   pub entries : a .entries ≡ b .entries
-  pub state : AlikeBut (a .state) (b .state)
+  pub state : SameButTailLen (a .state) (b .state)
   pub shared : a .shared ≡ b .shared
 
 -- the rule's figure for the bytes that were added or fed, by what the model keeps; zero in stage 0
@@ -85,18 +85,18 @@ tailLenBy b = cond (eqb (b .stage) 0) 0 (tailLength (length (b .A)))
 -- What a user of the field may rely on.
 pub record TailShown : Type 0 where
   -- any call on any state with the rule's figure gives what it gave without the field, whatever stands in the field's place there
-  pub unchanged : (s : Stream) (n : ℕ) (shared : List ℕ) (c : Call) → Told s → SameStep (call s shared c) (formerCall (withTailLen n s) shared c)
+  pub unchanged : (s : Stream) (n : ℕ) (shared : List ℕ) (c : Call) → ByRule s → SameStep (call s shared c) (formerCall (withTailLen n s) shared c)
   -- and so does any list of calls
-  pub lists : (s : Stream) (n : ℕ) (shared : List ℕ) (calls : List Call) → Told s → SameRun (run s shared calls) (runBy formerCall (withTailLen n s) shared calls)
+  pub lists : (s : Stream) (n : ℕ) (shared : List ℕ) (calls : List Call) → ByRule s → SameRun (run s shared calls) (runBy formerCall (withTailLen n s) shared calls)
   -- any other figure gives 9, and state and output are as they were
-  pub refused : (s : Stream) (shared : List ℕ) (c : Call) → (Told s → ⊥) → call s shared c ≡ refusedStep 9 s (lent shared c)
+  pub refused : (s : Stream) (shared : List ℕ) (c : Call) → (ByRule s → ⊥) → call s shared c ≡ refusedStep 9 s (lent shared c)
   -- every state that a begin gives has the rule's figure, whatever key, head, list and tag are, and whether it was refused or not
-  pub begins : (key bytes lens : List ℕ) (start : Start) (begin : Begin) → Told (begun key bytes lens start begin .state)
-  pub beginsFrom : (h : Head) (bytes lens : List ℕ) (begin : Begin) → Told (begunFrom h bytes lens begin .state)
+  pub begins : (key bytes lens : List ℕ) (start : Start) (begin : Begin) → ByRule (begun key bytes lens start begin .state)
+  pub beginsFrom : (h : Head) (bytes lens : List ℕ) (begin : Begin) → ByRule (begunFrom h bytes lens begin .state)
   -- and no list of calls loses it
-  pub stays : (s : Stream) (shared : List ℕ) (calls : List Call) → Told s → Told (run s shared calls .state)
+  pub stays : (s : Stream) (shared : List ℕ) (calls : List Call) → ByRule s → ByRule (run s shared calls .state)
   -- for a key and header list that document 01 admits, it is the figure for what was added, or fed
-  pub added : (key bytes lens : List ℕ) → Admits key bytes lens → (start : Start) (shared : List ℕ) (calls : List Call)
+  pub sealers : (key bytes lens : List ℕ) → Admits key bytes lens → (start : Start) (shared : List ℕ) (calls : List Call)
       → ran key bytes lens sealer shared calls start .state .«tail_len» ≡ tailLenBy (expected key bytes lens sealer shared calls .model)
-  pub fed : (key bytes lens : List ℕ) → Admits key bytes lens → (start : Start) (T shared : List ℕ) (calls : List Call) → length T ≡ 16
+  pub openers : (key bytes lens : List ℕ) → Admits key bytes lens → (start : Start) (T shared : List ℕ) (calls : List Call) → length T ≡ 16
       → ran key bytes lens (opener T) shared calls start .state .«tail_len» ≡ tailLenBy (expected key bytes lens (opener T) shared calls .model)

@@ -76,12 +76,14 @@ pub record Fit (wanted : ℕ) (s : Stream) : Type 0 where
   pub width : s .width ≤ 32
   pub total : s .total ≤ limit
   pub written : s .written ≤ writtenLimit wanted (s .total)
-  pub tailed : s .«tail_len» ≡ tailLength (s .total)
+  pub tailLen : s .«tail_len» ≡ tailLength (s .total)
 
 pub fit : (wanted : ℕ) (s : Stream) → fits wanted s ≡ true → Fit wanted s
 unfolding fits
 fit wanted s e =
-    let t = and-eq-true-iff _ (eqb (s .«tail_len») (tailLength (s .total))) .0 (and-eq-true-iff _ (allZero (drop (tailLength (s .total)) (s .tail))) .0 e .0) in
+    let judged =
+    eqb (s .stage) wanted && isWidth (s .width) && not (ltb limit (s .total)) && not (ltb (writtenLimit wanted (s .total)) (s .written)) && eqb (s .«tail_len») (tailLength (s .total)) in
+    let t = and-eq-true-iff _ (eqb (s .«tail_len») (tailLength (s .total))) .0 (and-eq-true-iff judged _ .0 e .0) in
     let b = and-eq-true-iff _ (not (ltb (writtenLimit wanted (s .total)) (s .written))) .0 (t .0) in
     let d = and-eq-true-iff _ (not (ltb limit (s .total))) .0 (b .0) in
     let f = and-eq-true-iff (eqb (s .stage) wanted) (isWidth (s .width)) .0 (d .0) in
@@ -89,7 +91,7 @@ fit wanted s e =
       width = width (s .width) (f .1) .high;
       total = ltb-false limit (s .total) (not-true (ltb limit (s .total)) (d .1));
       written = ltb-false (writtenLimit wanted (s .total)) (s .written) (not-true (ltb (writtenLimit wanted (s .total)) (s .written)) (b .1));
-      tailed = eqb-true (s .«tail_len») (tailLength (s .total)) (t .1);
+      tailLen = eqb-true (s .«tail_len») (tailLength (s .total)) (t .1);
     }
 
 -- ---- the calls' results
@@ -177,18 +179,16 @@ module _ (s : Stream) where
 
 -- what a piece leaves of a tail and puts into the chain, in numbers
 pub record Piece (total n : ℕ) : Type 0 where
-  pub more : passedBlocks total ≤ passedBlocks (total + n)
   pub count : 16 * (passedBlocks (total + n) - passedBlocks total) + tailLength (total + n) ≡ tailLength total + n
   pub used : tailLength total ≤ 31
   pub left : tailLength (total + n) < 32
-  pub leaves : (tailLength total + n - tailLength (total + n)) / 16 ≡ passedBlocks (total + n) - passedBlocks total
 
 pub piece : (total n : ℕ) → Piece total n
 piece total n =
     let a : Cut total = cut total in
     let b : Cut (total + n) = cut (total + n) in
     let h : passedBlocks total ≤ passedBlocks (total + n) = passed-more total n in
-    record { more = h; count = omega arith; used = omega arith; left = b .short; leaves = omega arith }
+    record { count = omega arith; used = omega arith; left = b .short }
 
 -- the state that the code puts together is the one with the piece
 pub absorbed : (s : Stream) (text : List ℕ) {left n used : ℕ} {c rest : List ℕ} → left ≡ tailLength (s .total + length text) → n ≡ passedBlocks (s .total + length text) - passedBlocks (s .total)

@@ -104,7 +104,9 @@ unfoldable pub added : Stream → List ℕ → Stream
 added s piece =
     let total = s .total + length piece in
     let n = passedBlocks total - passedBlocks (s .total) in
-    stateWith s (chain (cipher (s .width) (s .«mac_keys»)) (s .chain) (usedTail s ++ piece) n) total (tailLength total) (tailOf (drop (16 * n) (usedTail s ++ piece)))
+    let text = usedTail s ++ piece in
+    let c = chain (cipher (s .width) (s .«mac_keys»)) (s .chain) text n in
+    stateWith s c total (tailLength total) (tailOf (drop (16 * n) text))
 
 -- V of all that was added
 unfoldable pub tagOfState : Stream → List ℕ

@@ -114,7 +114,7 @@ fn tail_joined(a: &[u8], b: &[u8], at: usize, n: usize) -> Tail
     tail
 }
 
-// The state with a piece of plaintext more.
+// The state with a piece of plaintext more: of the tail and the piece, n blocks go into the chain, and what is left is the tail.
 pub(crate) fn absorb(s: Stream, piece: &[u8]) -> Stream
     requires { ⌜ (s .width ≤ 32) × (s .«tail_len» ≡ tailLength (s .total)) × (s .total + length (now piece) ≤ limit) ⌝ }
     ensures { λ r. ⌜ r ≡ added s (now (piece .entry)) ⌝ }
@@ -130,8 +130,8 @@ pub(crate) fn absorb(s: Stream, piece: &[u8]) -> Stream
     let chain = chain_text(s.width, &keys, c, &tail[0..used], piece, n);
     let rest = tail_joined(&tail[0..used], piece, 16 * n, left);
     next.chain = chain;
+    next.total = total;
     next.tail_len = left;
     next.tail = rest;
-    next.total = total;
     next
 }

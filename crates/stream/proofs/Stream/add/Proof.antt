@@ -29,7 +29,7 @@ enum-told-2 c = search needs
 absorb-requires : tie.Need-absorb-requires
 absorb-requires c κs =
     let a = add-admits _ _ (none (c .before)) in
-    (a .0 .width, a .0 .tailed, a .1)
+    (a .0 .width, a .0 .tailLen, a .1)
 
 returns-2 : tie.Need-returns-2
 unfolding addStep

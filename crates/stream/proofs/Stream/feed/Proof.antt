@@ -54,7 +54,7 @@ part-absorb-end c =
 absorb-requires : tie.Need-absorb-requires
 absorb-requires c κs =
     let a = feed-admits _ _ _ (none (c .before .before .before .before .before .before .before)) in
-    (a .0 .width, a .0 .tailed, simp (length-take, length-drop) (omega (arith, a .1)))
+    (a .0 .width, a .0 .tailLen, simp (length-take, length-drop) (omega (arith, a .1)))
 
 same-length : tie.Need-same-length
 same-length c = search needs

@@ -32,7 +32,7 @@ enum-told-2 c = search needs
 tag-of-state-requires : tie.Need-tag-of-state-requires
 tag-of-state-requires c κs =
     let a = finish-admits _ _ (none (c .before .before)) in
-    (a .0 .width, a .0 .tailed)
+    (a .0 .width, a .0 .tailLen)
 
 same-block-requires : tie.Need-same-block-requires
 same-block-requires c κs = search needs

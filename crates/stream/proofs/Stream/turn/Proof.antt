@@ -30,7 +30,7 @@ enum-told-2 c = search needs
 tag-of-state-requires : tie.Need-tag-of-state-requires
 tag-of-state-requires c κs =
     let a = turn-admits (c .before .before .before .before .args .self) (length (c .before .before .before .before .args .output .now)) (none (c .before)) in
-    (a .0 .width, a .0 .tailed)
+    (a .0 .width, a .0 .tailLen)
 
 store-requires : tie.Need-store-requires
 store-requires c κs = turn-admits _ _ (none (c .before .before .before)) .1

@@ -1,7 +1,7 @@
 -- `stream::tail::absorb` meets its contract.
 -- Assumes nothing.
-use mathlib.Core.Path.{_≡_, ap, _∙_}
-use Prim.Native.Nat.{ℕ, _+_, _-_, _/_}
+use mathlib.Core.Path.{_≡_}
+use Prim.Native.Nat.{_+_, _-_, _/_}
 use native.Mathlib.Omega.{arith}
 use lib.ListN.{length, length-take}
 use borrow.Author.Needs.{needs}
@@ -14,7 +14,7 @@ use Rattle.stream.proofs.tail.absorb.Tie as tie
 tail-length : (start : tie.Start) → length (start .args .s .tail) ≡ 31
 tail-length start = search needs
 
--- what the piece leaves, by the state's own length of its tail
+-- what the piece leaves of the tail, in numbers
 piece-of : (start : tie.Start) → Piece (start .args .s .total) (length (start .args .piece .now))
 piece-of start = piece (start .args .s .total) (length (start .args .piece .now))
 
