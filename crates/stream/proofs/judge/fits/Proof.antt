@@ -1,6 +1,6 @@
 -- `stream::judge::fits` meets its contract.
 -- Assumes nothing.
-use mathlib.Core.Path.{subst, ap, _∙_, _≡_, sym}
+use mathlib.Core.Path.{refl, subst, ap, _∙_, _≡_, sym}
 use mathlib.Core.Bool.{true, false, _&&_}
 use Prim.Native.Nat.{ℕ, _≤_, _<_}
 use lib.Dec.{eqb}
@@ -48,7 +48,7 @@ unfolding fits
 past c =
     let args = c .before .before .before .before .before .before .before .before .before .args in
     let within = subst (λ (m : ℕ). args .s .written ≤ m) (c .before .before .written-limit .ensures) (c .if4 .left) in
-    simp (eq-eqb _ _ (c .before .before .before .before .before .before .before .if1 .left), sym (c .before .before .before .before .before .before .is-width .ensures) ∙ not-false _ (c .before .before .before .before .before .if2 .left), le-ltb _ _ (c .before .before .before .if3 .left), le-ltb _ _ within)
+    simp (eq-eqb _ _ (c .before .before .before .before .before .before .before .if1 .left), sym (c .before .before .before .before .before .before .is-width .ensures) ∙ not-false _ (c .before .before .before .before .before .if2 .left), le-ltb _ _ (c .before .before .before .if3 .left), le-ltb _ _ within) refl
 
 is-tail-len-requires : tie.Need-is-tail-len-requires
 is-tail-len-requires c κs = search needs
