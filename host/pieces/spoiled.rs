@@ -42,7 +42,7 @@ pub fn run(Pieces { peers, random, noise, .. }: &mut Pieces) {
                 for (changed, state) in spoiled_states(random, &good) {
                     run_all(&state, changed, noise, &mut seen);
                 }
-                // At the limit outputs are long, so that not every change is tried there but every tail length.
+                // At the limit outputs are long, so that of the changes only some are tried there, and of the tail lengths all.
                 if [16, 31].contains(&total) {
                     let states = spoiled_states(random, &with_more(&good, LIMIT));
                     for (i, (changed, state)) in states.into_iter().enumerate() {
@@ -93,7 +93,7 @@ fn with_its_tail_len(mut state: State) -> State {
     state
 }
 
-/// The state itself, and with each field changed in turn.
+/// The state itself, and with each field changed in turn; a total also with the tail length that goes with it.
 fn spoiled_states(random: &mut Random, good: &State) -> Vec<(Option<Field>, State)> {
     let mut all = vec![(None, good.clone()), (Some(Field::Total), with_more(good, LIMIT + 16))];
     let (total, written) = (good.number(Field::Total), good.number(Field::Written));

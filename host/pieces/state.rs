@@ -81,7 +81,7 @@ impl State {
         self.get_mut(field).copy_from_slice(bytes);
     }
 
-    /// The tail of a text with its length, and zeros behind it.
+    /// The tail's used bytes with zeros behind them, and how many they are.
     pub fn set_tail(&mut self, used: &[u8]) {
         self.set_number(TailLen, used.len() as u64);
         let tail = self.get_mut(Tail);

@@ -1,4 +1,4 @@
--- The field follows its rule, and nothing but 9 depends on it: where the field is right, 9 judges what it judged without it.
+-- The field follows its rule, and nothing but 9 depends on it: where the field is right, 9 judges what it judges without it.
 -- Assumes nothing.
 use mathlib.Core.Path.{_≡_, refl, ap, ap₂, sym, subst, _∙_}
 use mathlib.Core.Bool.{Bool, true, false, not, cond, and-true, and-false, _&&_}
@@ -20,7 +20,7 @@ use Rattle.stream.specs.Steps.{StepResult, doneStep, refusedStep, settle, strea
 use Rattle.demands.specs.First.{FirstStep, FirstFinish}
 use Rattle.demands.specs.Model.{ModelState, fresh, wants}
 use Rattle.demands.specs.Run.{Begin, sealer, opener, Start, undivided, divided, Call, add, turn, write, close, feed, finish, begunFrom, begun, call, sharedAfter, Entry, runBy, run}
-use Rattle.demands.specs.Tail.{withTailLen, ByRule, SameButTailLen, formerFits, formerCall, SameStep, SameRun, tailLenBy, TailShown}
+use Rattle.demands.specs.Tail.{withTailLen, ByRule, SameButTailLen, fitsWithout, callWithout, SameStep, SameRun, tailLenBy, TailShown}
 use Rattle.demands.proofs.First.{answers-or-first-refusal}
 use Rattle.demands.proofs.Steps.{Known, adding, writing, closed, feeding, finished, call-misfit}
 use Rattle.demands.proofs.Third.{runs, sealer-known, opener-known}
@@ -28,22 +28,23 @@ use Rattle.demands.proofs.Third.{runs, sealer-known, opener-known}
 -- ---- what 9 judges
 
 module _ (wanted : ℕ) (s : Stream) where
-  -- what stands before the tail's length
+  -- what stands before the tail's length in it, and behind
   before : Bool
   before = eqb (s .stage) wanted && isWidth (s .width) && not (ltb limit (s .total)) && not (ltb (writtenLimit wanted (s .total)) (s .written))
 
-  by-field : (t : Bool) → eqb (s .«tail_len») (tailLength (s .total)) ≡ t → fits wanted s ≡ (before && t && allZero (drop (tailLength (s .total)) (s .tail)))
-  unfolding fits before
-  by-field t e = ap (λ (u : Bool). before && u && allZero (drop (tailLength (s .total)) (s .tail))) e
+  behind : Bool
+  behind = allZero (drop (tailLength (s .total)) (s .tail))
 
-  fits-by-rule : (n : ℕ) → ByRule s → fits wanted s ≡ formerFits wanted (withTailLen n s)
-  unfolding formerFits before
-  fits-by-rule n e =
-      by-field true (eq-eqb (s .«tail_len») (tailLength (s .total)) e) ∙ ap (λ (u : Bool). u && allZero (drop (tailLength (s .total)) (s .tail))) (and-true before)
+  by-field : (t : Bool) → eqb (s .«tail_len») (tailLength (s .total)) ≡ t → fits wanted s ≡ (before && t && behind)
+  unfolding fits before behind
+  by-field t e = ap (λ (u : Bool). before && u && behind) e
+
+  fits-by-rule : (n : ℕ) → ByRule s → fits wanted s ≡ fitsWithout wanted (withTailLen n s)
+  unfolding fitsWithout before behind
+  fits-by-rule n e = by-field true (eq-eqb (s .«tail_len») (tailLength (s .total)) e) ∙ ap (λ (u : Bool). u && behind) (and-true before)
 
   fits-otherwise : (ByRule s → ⊥) → fits wanted s ≡ false
-  fits-otherwise e =
-      by-field false (ne-eqb (s .«tail_len») (tailLength (s .total)) e) ∙ ap (λ (u : Bool). u && allZero (drop (tailLength (s .total)) (s .tail))) (and-false before)
+  fits-otherwise e = by-field false (ne-eqb (s .«tail_len») (tailLength (s .total)) e) ∙ ap (λ (u : Bool). u && behind) (and-false before)
 
 -- ---- a call
 
@@ -70,8 +71,8 @@ by-nine : {x y : ℕ → StepResult} → ((number : ℕ) → SameStep (x number)
     → SameStep (x (cond (not f) 9 rest)) (y (cond (not g) 9 rest))
 by-nine {x} {y} alike f g rest e = subst (λ (t : Bool). SameStep (x (cond (not f) 9 rest)) (y (cond (not t) 9 rest))) e (alike (cond (not f) 9 rest))
 
-same-call : (s : Stream) (n : ℕ) (o : List ℕ) (c : Call) → ByRule s → SameStep (call s o c) (formerCall (withTailLen n s) o c)
-unfolding formerCall formerFits addStep turnStep writeStep closeStep feedStep finishStep added tagOfState streamedAt
+same-call : (s : Stream) (n : ℕ) (o : List ℕ) (c : Call) → ByRule s → SameStep (call s o c) (callWithout (withTailLen n s) o c)
+unfolding callWithout fitsWithout addStep turnStep writeStep closeStep feedStep finishStep added tagOfState streamedAt
 same-call s n o (add piece) e = by-nine (settled s n _ _ _ refl _ []) _ _ _ (fits-by-rule 1 s n e)
 same-call s n o (turn output) e = by-nine (settled s n _ _ _ refl _ output) _ _ _ (fits-by-rule 1 s n e)
 same-call s n o (write piece output) e = by-nine (settled s n _ _ _ refl _ output) _ _ _ (fits-by-rule 2 s n e)
@@ -128,15 +129,15 @@ begun-by-rule key bytes lens (divided n) begin = from-by-rule _ _ _ begin
 
 -- ---- any list of calls
 
-same-run : (s : Stream) (n : ℕ) (o : List ℕ) (calls : List Call) → ByRule s → SameRun (run s o calls) (runBy formerCall (withTailLen n s) o calls)
+same-run : (s : Stream) (n : ℕ) (o : List ℕ) (calls : List Call) → ByRule s → SameRun (run s o calls) (runBy callWithout (withTailLen n s) o calls)
 same-run s n o [] e = record { entries = refl; state = refl; shared = refl }
 same-run s n o (c ∷ cs) e =
     let r : StepResult = call s o c in
-    let q : StepResult = formerCall (withTailLen n s) o c in
+    let q : StepResult = callWithout (withTailLen n s) o c in
     let here : SameStep r q = same-call s n o c e in
-    let rest : SameRun (run (r .state) (sharedAfter o c (r .output)) cs) (runBy formerCall (q .state) (sharedAfter o c (q .output)) cs) =
-    subst (λ (last : List ℕ). SameRun (run (r .state) (sharedAfter o c (r .output)) cs) (runBy formerCall (q .state) (sharedAfter o c last) cs)) (here .output)
-    (subst (λ (t : Stream). SameRun (run (r .state) (sharedAfter o c (r .output)) cs) (runBy formerCall t (sharedAfter o c (r .output)) cs)) (ap (withTailLen (q .state .«tail_len»)) (here .state))
+    let rest : SameRun (run (r .state) (sharedAfter o c (r .output)) cs) (runBy callWithout (q .state) (sharedAfter o c (q .output)) cs) =
+    subst (λ (last : List ℕ). SameRun (run (r .state) (sharedAfter o c (r .output)) cs) (runBy callWithout (q .state) (sharedAfter o c last) cs)) (here .output)
+    (subst (λ (t : Stream). SameRun (run (r .state) (sharedAfter o c (r .output)) cs) (runBy callWithout t (sharedAfter o c (r .output)) cs)) (ap (withTailLen (q .state .«tail_len»)) (here .state))
     (same-run (r .state) (q .state .«tail_len») (sharedAfter o c (r .output)) cs (call-by-rule s o c e))) in
     record {
       entries =

@@ -1,4 +1,4 @@
--- Slip 4 of document 02: the length of the hold is a field of the state, by document 01's rule; every other answer is what it was without the field.
+-- Slip 4 of document 02: the length of the hold is a field of the state, by document 01's rule; every other answer is what it is without the field.
 -- Assumes nothing.
 use mathlib.Core.Path.{_≡_}
 use mathlib.Core.Bool.{Bool, not, cond, _&&_}
@@ -34,35 +34,35 @@ SameButTailLen s t = withTailLen 0 s ≡ withTailLen 0 t
 
 -- ---- the calls without the field
 
--- what 9 judges then
-unfoldable pub formerFits : ℕ → Stream → Bool
-formerFits wanted s =
+-- what 9 judges without it
+unfoldable pub fitsWithout : ℕ → Stream → Bool
+fitsWithout wanted s =
     eqb (s .stage) wanted
     && isWidth (s .width)
     && not (ltb limit (s .total))
     && not (ltb (writtenLimit wanted (s .total)) (s .written))
     && allZero (drop (tailLength (s .total)) (s .tail))
 
--- each call with its refusals: what the field holds is nothing to any of them
-unfoldable pub formerCall : Stream → List ℕ → Call → StepResult
-formerCall s shared (add piece) =
-    settle (first (row 9 (not (formerFits 1 s)) ∷ row 4 (ltb limit (s .total + length piece)) ∷ [])) (doneStep 0 (added s piece) []) s []
-formerCall s shared (turn output) =
-    settle (first (row 9 (not (formerFits 1 s)) ∷ row 6 (ltb (length output) 16) ∷ []))
+-- each call with its refusals: none judges the field, nor works with it
+unfoldable pub callWithout : Stream → List ℕ → Call → StepResult
+callWithout s shared (add piece) =
+    settle (first (row 9 (not (fitsWithout 1 s)) ∷ row 4 (ltb limit (s .total + length piece)) ∷ [])) (doneStep 0 (added s piece) []) s []
+callWithout s shared (turn output) =
+    settle (first (row 9 (not (fitsWithout 1 s)) ∷ row 6 (ltb (length output) 16) ∷ []))
     (doneStep 16 (turned s (tagOfState s)) (put output 0 (tagOfState s))) s output
-formerCall s shared (write piece output) =
+callWithout s shared (write piece output) =
     settle
-    (first (row 9 (not (formerFits 2 s)) ∷ row 4 (ltb (s .total) (s .written + length piece)) ∷ row 6 (ltb (length output) (length piece)) ∷ []))
+    (first (row 9 (not (fitsWithout 2 s)) ∷ row 4 (ltb (s .total) (s .written + length piece)) ∷ row 6 (ltb (length output) (length piece)) ∷ []))
     (doneStep (length piece) (wrote s (length piece)) (put output 0 (streamedAt s (s .written) piece))) s output
-formerCall s shared close = settle (first (row 9 (not (formerFits 2 s && not (ltb (s .written) (s .total)))) ∷ [])) (doneStep 0 ended []) s []
-formerCall s shared (feed piece) =
+callWithout s shared close = settle (first (row 9 (not (fitsWithout 2 s && not (ltb (s .written) (s .total)))) ∷ [])) (doneStep 0 ended []) s []
+callWithout s shared (feed piece) =
     let p = streamedAt s (s .total) piece in
     settle
-    (first (row 9 (not (formerFits 3 s)) ∷ row 4 (ltb limit (s .total + length piece)) ∷ row 6 (ltb (length shared) (s .total + length piece)) ∷ []))
+    (first (row 9 (not (fitsWithout 3 s)) ∷ row 4 (ltb limit (s .total + length piece)) ∷ row 6 (ltb (length shared) (s .total + length piece)) ∷ []))
     (doneStep (length piece) (added s p) (put shared (s .total) p)) s shared
-formerCall s shared finish =
-    let n = first (row 9 (not (formerFits 3 s)) ∷ row 6 (ltb (length shared) (s .total)) ∷ row 8 (not (same (tagOfState s) (s .v))) ∷ []) in
-    cond (eqb n 8) (refusedStep 8 ended (put shared 0 (replicate (s .total) 0))) (settle n (doneStep (s .total) ended shared) s shared)
+callWithout s shared finish =
+    let number = first (row 9 (not (fitsWithout 3 s)) ∷ row 6 (ltb (length shared) (s .total)) ∷ row 8 (not (same (tagOfState s) (s .v))) ∷ []) in
+    cond (eqb number 8) (refusedStep 8 ended (put shared 0 (replicate (s .total) 0))) (settle number (doneStep (s .total) ended shared) s shared)
 
 -- ---- what may be relied on
 
@@ -84,10 +84,10 @@ tailLenBy b = cond (eqb (b .stage) 0) 0 (tailLength (length (b .A)))
 
 -- What a user of the field may rely on.
 pub record TailShown : Type 0 where
-  -- any call on any state with the rule's figure gives what it gave without the field, whatever stands in the field's place there
-  pub unchanged : (s : Stream) (n : ℕ) (shared : List ℕ) (c : Call) → ByRule s → SameStep (call s shared c) (formerCall (withTailLen n s) shared c)
+  -- any call on any state with the rule's figure gives what the call without the field gives, with any n in the field's place
+  pub unchanged : (s : Stream) (n : ℕ) (shared : List ℕ) (c : Call) → ByRule s → SameStep (call s shared c) (callWithout (withTailLen n s) shared c)
   -- and so does any list of calls
-  pub lists : (s : Stream) (n : ℕ) (shared : List ℕ) (calls : List Call) → ByRule s → SameRun (run s shared calls) (runBy formerCall (withTailLen n s) shared calls)
+  pub lists : (s : Stream) (n : ℕ) (shared : List ℕ) (calls : List Call) → ByRule s → SameRun (run s shared calls) (runBy callWithout (withTailLen n s) shared calls)
   -- any other figure gives 9, and state and output are as they were
   pub refused : (s : Stream) (shared : List ℕ) (c : Call) → (ByRule s → ⊥) → call s shared c ≡ refusedStep 9 s (lent shared c)
   -- every state that a begin gives has the rule's figure, whatever key, head, list and tag are, and whether it was refused or not

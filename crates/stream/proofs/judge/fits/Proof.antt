@@ -41,11 +41,11 @@ returns-4 c =
     simp (eq-eqb _ _ (c .before .before .before .before .before .before .before .if1 .left), sym (c .before .before .before .before .before .before .is-width .ensures) ∙ not-false _ (c .before .before .before .before .before .if2 .left), le-ltb _ _ (c .before .before .before .if3 .left), lt-ltb _ _ past)
 
 -- past stage, width, total and written, the tail's length and its unused bytes decide
-past : (c : tie.Else4)
+tail-decides : (c : tie.Else4)
     → let args = c .before .before .before .before .before .before .before .before .before .args in
     fits (args .wanted) (args .s) ≡ (eqb (args .s .«tail_len») (tailLength (args .s .total)) && allZero (drop (tailLength (args .s .total)) (args .s .tail)))
 unfolding fits
-past c =
+tail-decides c =
     let args = c .before .before .before .before .before .before .before .before .before .args in
     let within = subst (λ (m : ℕ). args .s .written ≤ m) (c .before .before .written-limit .ensures) (c .if4 .left) in
     simp (eq-eqb _ _ (c .before .before .before .before .before .before .before .if1 .left), sym (c .before .before .before .before .before .before .is-width .ensures) ∙ not-false _ (c .before .before .before .before .before .if2 .left), le-ltb _ _ (c .before .before .before .if3 .left), le-ltb _ _ within) refl
@@ -57,7 +57,7 @@ returns-5 : tie.Need-returns-5
 returns-5 c =
     let s = c .before .before .before .before .before .before .before .before .before .before .before .args .s in
     let differs : eqb (s .«tail_len») (tailLength (s .total)) ≡ false = sym (c .before .is-tail-len .ensures) ∙ not-true _ (c .if5 .taken) in
-    sym (past (c .before .before) ∙ simp differs)
+    sym (tail-decides (c .before .before) ∙ simp differs)
 
 slice-aggregate-zero-from : tie.Need-slice-aggregate-zero-from
 slice-aggregate-zero-from c = sym (tail-length (c .before .before .before .before .before .before .before .before .before .before .before .before .before))
@@ -69,7 +69,7 @@ returns-6 : tie.Need-returns-6
 returns-6 c =
     let s = c .before .before .before .before .before .before .before .before .before .before .before .before .before .before .args .s in
     let agrees : eqb (s .«tail_len») (tailLength (s .total)) ≡ true = sym (c .before .before .before .before .is-tail-len .ensures) ∙ not-false _ (c .before .before .before .if5 .left) in
-    c .zero-from .ensures ∙ ap (λ (k : ℕ). allZero (drop k (s .tail))) (eqb-true (s .«tail_len») (tailLength (s .total)) agrees) ∙ sym (past (c .before .before .before .before .before) ∙ simp agrees)
+    c .zero-from .ensures ∙ ap (λ (k : ℕ). allZero (drop k (s .tail))) (eqb-true (s .«tail_len») (tailLength (s .total)) agrees) ∙ sym (tail-decides (c .before .before .before .before .before) ∙ simp agrees)
 
 pub fits-spec : {M : Type 1} → statement M
 fits-spec =
