@@ -1,12 +1,13 @@
 -- `stream::judge::fits` meets its contract.
 -- Assumes nothing.
 use mathlib.Core.Path.{refl, subst, ap, _∙_, _≡_, sym}
-use mathlib.Core.Bool.{true, false, _&&_}
+use mathlib.Core.Bool.{_&&_}
 use Prim.Native.Nat.{ℕ, _≤_, _<_}
 use lib.Dec.{eqb}
 use lib.ListN.{drop, length}
 use borrow.Author.Needs.{needs}
 use borrow.Author.Tests.{eqb-true, not-true, not-false, eq-eqb, ne-eqb, lt-ltb, le-ltb}
+use Rattle.aes.specs.Aes.{isWidth}
 use Rattle.s2v.specs.S2v.{tailLength}
 use Rattle.stream.specs.State.{allZero, fits}
 use Rattle.stream.proofs.judge.fits.Statement.{statement}
@@ -22,13 +23,17 @@ returns c = simp (ne-eqb _ _ (c .if1 .taken))
 is-width-requires : tie.Need-is-width-requires
 is-width-requires c κs = search needs
 
+-- the state's width is what was judged
+wide : (c : tie.After-is-width) → isWidth (c .before .before .before .args .s .width) ≡ c .is-width .result
+wide c = sym (c .is-width .ensures)
+
 returns-2 : tie.Need-returns-2
 unfolding fits
-returns-2 c = simp (eq-eqb _ _ (c .before .before .if1 .left), sym (c .before .is-width .ensures) ∙ not-true _ (c .if2 .taken))
+returns-2 c = simp (eq-eqb _ _ (c .before .before .if1 .left), wide (c .before) ∙ not-true _ (c .if2 .taken))
 
 returns-3 : tie.Need-returns-3
 unfolding fits
-returns-3 c = simp (eq-eqb _ _ (c .before .before .before .before .if1 .left), sym (c .before .before .before .is-width .ensures) ∙ not-false _ (c .before .before .if2 .left), lt-ltb _ _ (c .if3 .taken))
+returns-3 c = simp (eq-eqb _ _ (c .before .before .before .before .if1 .left), wide (c .before .before .before) ∙ not-false _ (c .before .before .if2 .left), lt-ltb _ _ (c .if3 .taken))
 
 written-limit-requires : tie.Need-written-limit-requires
 written-limit-requires c κs = search needs
@@ -38,7 +43,7 @@ unfolding fits
 returns-4 c =
     let args = c .before .before .before .before .before .before .before .before .before .args in
     let past = subst (λ (m : ℕ). m < args .s .written) (c .before .before .written-limit .ensures) (c .if4 .taken) in
-    simp (eq-eqb _ _ (c .before .before .before .before .before .before .before .if1 .left), sym (c .before .before .before .before .before .before .is-width .ensures) ∙ not-false _ (c .before .before .before .before .before .if2 .left), le-ltb _ _ (c .before .before .before .if3 .left), lt-ltb _ _ past)
+    simp (eq-eqb _ _ (c .before .before .before .before .before .before .before .if1 .left), wide (c .before .before .before .before .before .before) ∙ not-false _ (c .before .before .before .before .before .if2 .left), le-ltb _ _ (c .before .before .before .if3 .left), lt-ltb _ _ past)
 
 -- past stage, width, total and written, the tail's length and its unused bytes decide
 tail-decides : (c : tie.Else4)
@@ -48,16 +53,17 @@ unfolding fits
 tail-decides c =
     let args = c .before .before .before .before .before .before .before .before .before .args in
     let within = subst (λ (m : ℕ). args .s .written ≤ m) (c .before .before .written-limit .ensures) (c .if4 .left) in
-    simp (eq-eqb _ _ (c .before .before .before .before .before .before .before .if1 .left), sym (c .before .before .before .before .before .before .is-width .ensures) ∙ not-false _ (c .before .before .before .before .before .if2 .left), le-ltb _ _ (c .before .before .before .if3 .left), le-ltb _ _ within) refl
+    simp (eq-eqb _ _ (c .before .before .before .before .before .before .before .if1 .left), wide (c .before .before .before .before .before .before) ∙ not-false _ (c .before .before .before .before .before .if2 .left), le-ltb _ _ (c .before .before .before .if3 .left), le-ltb _ _ within) refl
 
 is-tail-len-requires : tie.Need-is-tail-len-requires
 is-tail-len-requires c κs = search needs
 
+-- and so is its tail's length
+tailed : (c : tie.After-is-tail-len) → eqb (c .before .before .before .before .before .before .before .before .before .before .args .s .«tail_len») (tailLength (c .before .before .before .before .before .before .before .before .before .before .args .s .total)) ≡ c .is-tail-len .result
+tailed c = sym (c .is-tail-len .ensures)
+
 returns-5 : tie.Need-returns-5
-returns-5 c =
-    let s = c .before .before .before .before .before .before .before .before .before .before .before .args .s in
-    let differs : eqb (s .«tail_len») (tailLength (s .total)) ≡ false = sym (c .before .is-tail-len .ensures) ∙ not-true _ (c .if5 .taken) in
-    sym (tail-decides (c .before .before) ∙ simp differs)
+returns-5 c = sym (tail-decides (c .before .before) ∙ simp (tailed (c .before) ∙ not-true _ (c .if5 .taken)))
 
 slice-aggregate-zero-from : tie.Need-slice-aggregate-zero-from
 slice-aggregate-zero-from c = sym (tail-length (c .before .before .before .before .before .before .before .before .before .before .before .before .before))
@@ -68,7 +74,7 @@ zero-from-requires c κs = search needs
 returns-6 : tie.Need-returns-6
 returns-6 c =
     let s = c .before .before .before .before .before .before .before .before .before .before .before .before .before .before .args .s in
-    let agrees : eqb (s .«tail_len») (tailLength (s .total)) ≡ true = sym (c .before .before .before .before .is-tail-len .ensures) ∙ not-false _ (c .before .before .before .if5 .left) in
+    let agrees = tailed (c .before .before .before .before) ∙ not-false _ (c .before .before .before .if5 .left) in
     c .zero-from .ensures ∙ ap (λ (k : ℕ). allZero (drop k (s .tail))) (eqb-true (s .«tail_len») (tailLength (s .total)) agrees) ∙ sym (tail-decides (c .before .before .before .before .before) ∙ simp agrees)
 
 pub fits-spec : {M : Type 1} → statement M
