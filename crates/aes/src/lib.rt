@@ -11,6 +11,7 @@ ghost use Rattle.aes.specs.Aes.{isWidth, expansion};
 ghost use Rattle.aes.specs.Cipher.{cipher};
 ghost use Rattle.aes.specs.KeyExpansion.{roundKeys};
 ghost use Rattle.aes.specs.Engine.{Ready};
+ghost use Rattle.aes.specs.Work.{Reports};
 use octets::Block;
 
 // What the cipher is lent besides round keys: made once in an outermost call, and lent from there.
@@ -18,6 +19,12 @@ pub type Engine = field::Sbox;
 
 // The round keys of all rounds.
 pub type RoundKeys = [u8; 240];
+
+// A block, and with how many cipher calls it was made.
+pub struct Counted {
+    pub block: Block,
+    pub work: usize,
+}
 
 // The state, a word for each column.
 struct State {
@@ -47,15 +54,16 @@ pub fn engine() -> Engine
     field::sbox()
 }
 
-// The cipher of a block at a key width, under any round keys.
-pub fn encrypt(engine: &Engine, width: usize, keys: &RoundKeys, block: Block) -> Block
+// The cipher of a block at a key width, under any round keys, with its one block of work.
+pub fn encrypt(engine: &Engine, width: usize, keys: &RoundKeys, block: Block) -> Counted
     requires { ⌜ Ready (now engine) × (width ≤ 32) ⌝ }
-    ensures { λ r. ⌜ r ≡ cipher width (now (keys .entry)) block ⌝ }
+    ensures { λ r. ⌜ Reports (cipher width (now (keys .entry)) block) 1 r ⌝ }
 {
     let last = width / 4 + 6;
     let first = round::add(round::state_of(block), round::round_key(keys, 0));
     let s = round::middle_rounds(engine, keys, last - 1, first);
-    round::block_of(round::last_round(engine, s, round::round_key(keys, last)))
+    let block = round::block_of(round::last_round(engine, s, round::round_key(keys, last)));
+    Counted { block, work: 1 }
 }
 
 // Whether a key may have n bytes.

@@ -12,7 +12,7 @@ use lib.Seq.{drop-drop, drop-at, drop-append-le, take-append-le, append-snoc, le
 use Rattle.octets.specs.Octets.{xors, part}
 use Rattle.octets.proofs.Strings.{Written, written-more, written-all, put-all, xors-nil, xors-zeros}
 use Rattle.cmac.specs.declared.Subkeys.{Subkeys}
-use Rattle.cmac.specs.Cmac.{shifted, pad, PaddingFolds, lastBlock, blocksBefore, chain, cmacFrom}
+use Rattle.cmac.specs.Cmac.{shifted, pad, PaddingFolds, lastBlock, blocksBefore, chain, chainWork, cmacFrom, cmacWork}
 
 -- ---- doubling
 
@@ -72,6 +72,18 @@ xors-byte c t i b h n e = ap₂ (λ (l : List ℕ) (k : ℕ). set l k (bitXor (g
 pub xors-more : (c s : List ℕ) {r : List ℕ} (i : ℕ) → i < length c → i < length s → r ≡ xors c (take i s) → set r i (bitXor (getD r i 0) (getD s i 0)) ≡ xors c (take (i + 1) s)
 xors-more c s i hc hs e =
     rw (add-one, take-suc s i 0) (xors-byte c (take i s) i (getD s i 0) hc (length-take-le i s (omega arith)) e)
+
+-- ---- the work
+
+pub chain-work : (n : ℕ) → chainWork n ≡ n
+unfolding chainWork
+chain-work zero = refl
+chain-work (suc n) = omega (arith, chain-work n)
+
+-- a string has one block more than stand before its last
+pub cmac-work : (s : List ℕ) → cmacWork s ≡ blocksBefore (length s) + 1
+unfolding cmacWork
+cmac-work s = ap (λ (n : ℕ). n + 1) (chain-work (blocksBefore (length s)))
 
 -- ---- the chain
 

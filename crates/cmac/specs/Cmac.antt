@@ -1,4 +1,4 @@
--- CMAC with a 16-byte tag, SP 800-38B, over any block function E.
+-- CMAC with a 16-byte tag, SP 800-38B, over any block function E; beside what calls E stands its work, the number of these calls.
 -- Assumes nothing.
 use mathlib.Core.Path.{_≡_}
 use mathlib.Core.Bool.{cond}
@@ -47,22 +47,31 @@ lastBlock k s = cond (eqb (length s) 16) (xors s (k .k1)) (xors (pad s) (k .k2))
 abbrev pub blocksBefore : ℕ → ℕ
 blocksBefore n = (n - 1) / 16
 
-module _ (E : List ℕ → List ℕ) where
-  -- 6.1, step 1: L is the cipher of the zero block
-  abbrev pub zeroCipher : List ℕ
-  zeroCipher = E zeros
+-- 6.1, step 1: L is the cipher of the zero block
+abbrev pub zeroCipher : (List ℕ → List ℕ) → List ℕ
+zeroCipher E = E zeros
 
-  -- 6.2, steps 5 and 6: the chain from c over the first n blocks of s
-  unfoldable pub chain : List ℕ → List ℕ → ℕ → List ℕ
-  chain c s zero = c
-  chain c s (suc n) = E (xors (chain c s n) (part s (16 * n) 16))
+abbrev pub zeroCipherWork : ℕ
+zeroCipherWork = 1
 
-  -- 6.2: CMAC of what was chained to c and then of s
-  unfoldable pub cmacFrom : Subkeys → List ℕ → List ℕ → List ℕ
-  cmacFrom k c s =
-      let n = blocksBefore (length s) in
-      E (xors (chain c s n) (lastBlock k (drop (16 * n) s)))
+-- 6.2, steps 5 and 6: the chain from c over the first n blocks of s
+unfoldable pub chain : (List ℕ → List ℕ) → List ℕ → List ℕ → ℕ → List ℕ
+chain E c s zero = c
+chain E c s (suc n) = E (xors (chain E c s n) (part s (16 * n) 16))
 
-  -- 6.2: CMAC of a string under the subkeys, with a 16-byte tag
-  abbrev pub cmac : Subkeys → List ℕ → List ℕ
-  cmac k s = cmacFrom k zeros s
+unfoldable pub chainWork : ℕ → ℕ
+chainWork zero = 0
+chainWork (suc n) = chainWork n + 1
+
+-- 6.2: CMAC of what was chained to c and then of s
+unfoldable pub cmacFrom : (List ℕ → List ℕ) → Subkeys → List ℕ → List ℕ → List ℕ
+cmacFrom E k c s =
+    let n = blocksBefore (length s) in
+    E (xors (chain E c s n) (lastBlock k (drop (16 * n) s)))
+
+unfoldable pub cmacWork : List ℕ → ℕ
+cmacWork s = chainWork (blocksBefore (length s)) + 1
+
+-- 6.2: CMAC of a string under the subkeys, with a 16-byte tag; its work is the same, `cmacWork`
+abbrev pub cmac : (List ℕ → List ℕ) → Subkeys → List ℕ → List ℕ
+cmac E k s = cmacFrom E k zeros s

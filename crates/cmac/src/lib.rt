@@ -4,8 +4,10 @@ ghost use Prim.Native.Nat.{_+_, _*_, _/_, _%_, _≤_, _<_};
 ghost use lib.ListN.{length};
 ghost use Rattle.aes.specs.Cipher.{cipher};
 ghost use Rattle.aes.specs.Engine.{Ready};
+ghost use Rattle.aes.specs.Work.{Reports};
 ghost use Rattle.octets.specs.Octets.{xors, part};
-ghost use Rattle.cmac.specs.Cmac.{shifted, double, subkeys, pad, lastBlock, chain, cmacFrom, blocksBefore, zeroCipher};
+ghost use Rattle.cmac.specs.Cmac.{shifted, double, subkeys, pad, lastBlock, blocksBefore, zeroCipher, zeroCipherWork, chain, chainWork, cmacFrom, cmacWork};
+use aes::Counted;
 use aes::Engine;
 use aes::RoundKeys;
 use octets::Block;
@@ -51,9 +53,9 @@ pub fn double(b: Block) -> Block
 }
 
 // L: the cipher of the zero block.
-pub fn zero_cipher(engine: &Engine, width: usize, keys: &RoundKeys) -> Block
+pub fn zero_cipher(engine: &Engine, width: usize, keys: &RoundKeys) -> Counted
     requires { ⌜ Ready (now engine) × (width ≤ 32) ⌝ }
-    ensures { λ r. ⌜ r ≡ zeroCipher (cipher width (now (keys .entry))) ⌝ }
+    ensures { λ r. ⌜ Reports (zeroCipher (cipher width (now (keys .entry)))) zeroCipherWork r ⌝ }
 {
     aes::encrypt(engine, width, keys, [0u8; 16])
 }
@@ -96,9 +98,9 @@ fn xor_last(k: Subkeys, c: Block, s: &[u8]) -> Block
 }
 
 // The chain with block n of a slice.
-fn absorb(engine: &Engine, width: usize, keys: &RoundKeys, c: Block, s: &[u8], n: usize) -> Block
+fn absorb(engine: &Engine, width: usize, keys: &RoundKeys, c: Block, s: &[u8], n: usize) -> Counted
     requires { ⌜ Ready (now engine) × (width ≤ 32) × (16 * n + 16 ≤ length (now s)) ⌝ }
-    ensures { λ r. ⌜ r ≡ cipher width (now (keys .entry)) (xors c (part (now (s .entry)) (16 * n) 16)) ⌝ }
+    ensures { λ r. ⌜ Reports (cipher width (now (keys .entry)) (xors c (part (now (s .entry)) (16 * n) 16))) 1 r ⌝ }
 {
     aes::encrypt(
         engine,
@@ -116,18 +118,20 @@ pub fn chain_blocks(
     c: Block,
     s: &[u8],
     n: usize,
-) -> Block
+) -> Counted
     requires { ⌜ Ready (now engine) × (width ≤ 32) × (16 * n ≤ length (now s)) ⌝ }
-    ensures { λ r. ⌜ r ≡ chain (cipher width (now (keys .entry))) c (now (s .entry)) n ⌝ }
+    ensures { λ r. ⌜ Reports (chain (cipher width (now (keys .entry))) c (now (s .entry)) n) (chainWork n) r ⌝ }
 {
-    let mut b = c;
+    let mut block = c;
+    let mut work = 0;
     let mut i = 0;
     while i < n {
-        let next = absorb(engine, width, keys, b, s, i);
-        b = next;
+        let next = absorb(engine, width, keys, block, s, i);
+        block = next.block;
+        work = work + next.work;
         i += 1;
     }
-    b
+    Counted { block, work }
 }
 
 // How many blocks stand before the last one of n bytes.
@@ -148,15 +152,21 @@ pub fn cmac_from(
     k: Subkeys,
     c: Block,
     s: &[u8],
-) -> Block
+) -> Counted
     requires { ⌜ Ready (now engine) × (width ≤ 32) ⌝ }
-    ensures { λ r. ⌜ r ≡ cmacFrom (cipher width (now (keys .entry))) k c (now (s .entry)) ⌝ }
+    ensures { λ r. ⌜ Reports (cmacFrom (cipher width (now (keys .entry))) k c (now (s .entry))) (cmacWork (now (s .entry))) r ⌝ }
 {
     let n = blocks_before(s.len());
     if n == 0 {
         return aes::encrypt(engine, width, keys, xor_last(k, c, s));
     }
-    let b = chain_blocks(engine, width, keys, c, s, n);
+    let before = chain_blocks(engine, width, keys, c, s, n);
+    let b = before.block;
     let at = 16 * n;
-    aes::encrypt(engine, width, keys, xor_last(k, b, &s[at..]))
+    let last = aes::encrypt(engine, width, keys, xor_last(k, b, &s[at..]));
+    let block = last.block;
+    Counted {
+        block,
+        work: before.work + last.work,
+    }
 }

@@ -1,12 +1,14 @@
 // Counter mode as RFC 5297 has it: the key stream under V, xored into parts of lent slices.
 ghost use mathlib.Core.Path.{_≡_};
-ghost use Prim.Native.Nat.{_+_, _*_, _^_, _≤_};
+ghost use Prim.Native.Nat.{_+_, _*_, _^_, _≤_, min};
 ghost use lib.ListN.{length, take};
 ghost use mathlib.Core.List.{[], _∷_, _++_};
 ghost use Rattle.octets.specs.Octets.{entries, put};
-ghost use Rattle.ctr.specs.Counter.{number, bytesOfNumber, clear, plus, xorStream};
+ghost use Rattle.ctr.specs.Counter.{number, bytesOfNumber, clear, plus, streamWork, keyStreamWork, xorStream, begunBlock, leftOver};
 ghost use Rattle.aes.specs.Cipher.{cipher};
 ghost use Rattle.aes.specs.Engine.{Ready};
+ghost use Rattle.aes.specs.Work.{Reports};
+use aes::Counted;
 use aes::Engine;
 use aes::RoundKeys;
 use octets::Block;
@@ -86,37 +88,28 @@ pub fn plus(q: Block, i: u64) -> Block
     split(hi, sum)
 }
 
-// Block i of the key stream.
-fn key_block(engine: &Engine, width: usize, keys: &RoundKeys, v: Block, i: u64) -> Block
-    requires { ⌜ Ready (now engine) × (width ≤ 32) ⌝ }
-    ensures { λ r. ⌜ r ≡ cipher width (now (keys .entry)) (plus (clear v) i) ⌝ }
-{
-    aes::encrypt(engine, width, keys, plus(clear(v), i))
-}
-
-// Writes src, xored with block i of the key stream from its byte k on, at place at of a slice; src ends with the block at the latest.
+// Writes src, of at most 16 bytes, xored with block i of the key stream, at place at of a slice; gives the block.
 fn xor_piece(
     engine: &Engine,
     width: usize,
     keys: &RoundKeys,
     v: Block,
     i: u64,
-    k: usize,
     src: &[u8],
     dst: &mut [u8],
     at: usize,
-)
-    requires { ⌜ Ready (now engine) × (width ≤ 32) × (k + length (now src) ≤ 16) × (at + length (now src) ≤ length (now dst)) ⌝ }
-    ensures { λ _. ⌜ now (dst .exit) ≡ put (now (dst .entry)) at (xorStream (cipher width (now (keys .entry))) v (16 * i + k) (now (src .entry))) ⌝ }
+) -> Counted
+    requires { ⌜ Ready (now engine) × (width ≤ 32) × (length (now src) ≤ 16) × (at + length (now src) ≤ length (now dst)) ⌝ }
+    ensures block { λ r. ⌜ Reports (cipher width (now (keys .entry)) (plus (clear v) i)) 1 r ⌝ }
+    ensures text { λ _. ⌜ now (dst .exit) ≡ put (now (dst .entry)) at (xorStream (cipher width (now (keys .entry))) v (16 * i) (now (src .entry))) ⌝ }
 {
-    if src.len() == 0 {
-        return;
-    }
-    let block = key_block(engine, width, keys, v, i);
-    octets::xor_at(dst, at, src, &block[k..]);
+    let made = aes::encrypt(engine, width, keys, plus(clear(v), i));
+    let block = made.block;
+    octets::xor_at(dst, at, src, &block);
+    made
 }
 
-// Writes the first n blocks of src, xored with the key stream from block i on, at place at of a slice.
+// Writes the first n blocks of src, xored with the key stream from block i on, at place at of a slice; gives the work.
 fn xor_blocks(
     engine: &Engine,
     width: usize,
@@ -127,29 +120,32 @@ fn xor_blocks(
     src: &[u8],
     dst: &mut [u8],
     at: usize,
-)
+) -> usize
     requires { ⌜ Ready (now engine) × (width ≤ 32) × (i ≤ 2 ^ 61) × (16 * n ≤ length (now src)) × (at + 16 * n ≤ length (now dst)) ⌝ }
-    ensures { λ _. ⌜ now (dst .exit) ≡ put (now (dst .entry)) at (xorStream (cipher width (now (keys .entry))) v (16 * i) (take (16 * n) (now (src .entry)))) ⌝ }
+    ensures work { λ r. ⌜ r ≡ streamWork n ⌝ }
+    ensures text { λ _. ⌜ now (dst .exit) ≡ put (now (dst .entry)) at (xorStream (cipher width (now (keys .entry))) v (16 * i) (take (16 * n) (now (src .entry)))) ⌝ }
 {
+    let mut work = 0;
     let mut j = 0;
     while j < n {
-        xor_piece(
+        let made = xor_piece(
             engine,
             width,
             keys,
             v,
             (i + j) as u64,
-            0,
             &src[16 * j..16 * j + 16],
             dst,
             at + 16 * j,
         );
+        work = work + made.work;
         j += 1;
     }
+    work
 }
 
-// Writes src, xored with the key stream from block i on, at place at of a slice: whole blocks, then the short end.
-fn xor_from(
+// Writes src, xored with the key stream from block i on, at place at of a slice: whole blocks, then the short end. Gives the block that the end begins, and the work.
+pub fn xor_from(
     engine: &Engine,
     width: usize,
     keys: &RoundKeys,
@@ -158,46 +154,43 @@ fn xor_from(
     src: &[u8],
     dst: &mut [u8],
     at: usize,
-)
+) -> Counted
     requires { ⌜ Ready (now engine) × (width ≤ 32) × (i ≤ 2 ^ 61) × (at + length (now src) ≤ length (now dst)) ⌝ }
-    ensures { λ _. ⌜ now (dst .exit) ≡ put (now (dst .entry)) at (xorStream (cipher width (now (keys .entry))) v (16 * i) (now (src .entry))) ⌝ }
+    ensures kept { λ r. ⌜ Reports (begunBlock (cipher width (now (keys .entry))) v (16 * i + length (now (src .entry)))) (keyStreamWork (length (now (src .entry)))) r ⌝ }
+    ensures text { λ _. ⌜ now (dst .exit) ≡ put (now (dst .entry)) at (xorStream (cipher width (now (keys .entry))) v (16 * i) (now (src .entry))) ⌝ }
 {
     let n = src.len() / 16;
-    xor_blocks(engine, width, keys, v, i, n, src, dst, at);
-    xor_piece(
+    let whole = xor_blocks(engine, width, keys, v, i, n, src, dst, at);
+    if src.len() % 16 == 0 {
+        return Counted {
+            block: [0u8; 16],
+            work: whole,
+        };
+    }
+    let end = xor_piece(
         engine,
         width,
         keys,
         v,
         (i + n) as u64,
-        0,
         &src[16 * n..],
         dst,
         at + 16 * n,
     );
+    let block = end.block;
+    Counted {
+        block,
+        work: whole + end.work,
+    }
 }
 
-// Writes src, xored with the key stream from byte place on, at place at of a slice: first the rest of a begun block.
-pub fn xor_stream(
-    engine: &Engine,
-    width: usize,
-    keys: &RoundKeys,
-    v: Block,
-    place: usize,
-    src: &[u8],
-    dst: &mut [u8],
-    at: usize,
-)
-    requires { ⌜ Ready (now engine) × (width ≤ 32) × (at + length (now src) ≤ length (now dst)) ⌝ }
-    ensures { λ _. ⌜ now (dst .exit) ≡ put (now (dst .entry)) at (xorStream (cipher width (now (keys .entry))) v place (now (src .entry))) ⌝ }
+// How many of n bytes, from byte place of the key stream on, a kept block has a byte for.
+pub fn from_kept(place: usize, n: usize) -> usize
+    ensures { λ r. ⌜ r ≡ min (leftOver place) n ⌝ }
 {
-    let i = place / 16;
-    let k = place % 16;
-    let rest = 16 - k;
-    if src.len() <= rest {
-        xor_piece(engine, width, keys, v, i as u64, k, src, dst, at);
-        return;
+    let left = (16 - place % 16) % 16;
+    if left < n {
+        return left;
     }
-    xor_piece(engine, width, keys, v, i as u64, k, &src[..rest], dst, at);
-    xor_from(engine, width, keys, v, i + 1, &src[rest..], dst, at + rest);
+    n
 }

@@ -1,6 +1,6 @@
 -- `aes::encrypt` meets its contract.
 -- Assumes nothing.
-use mathlib.Core.Path.{_≡_, ap, ap₂, _∙_}
+use mathlib.Core.Path.{_≡_, refl, ap, ap₂, _∙_}
 use mathlib.Core.List.{List}
 use Prim.Native.Nat.{ℕ, _-_}
 use borrow.Author.Needs.{needs}
@@ -46,10 +46,14 @@ returns c =
     let whitened : bytesOf (ended .before .add .result) ≡ addRoundKey (roundKey keys 0) (start .args .block) =
     ended .before .add .ensures
     ∙ ap₂ addRoundKey (ended .before .before .round-key .ensures) (state-bytes _ (ended .before .before .before .state-of .ensures)) in
-    c .block-of .ensures
-    ∙ c .before .last-round .ensures
-    ∙ ap₂ (λ (k s : List ℕ). addRoundKey k (shiftRows (subBytes s))) (c .before .before .round-key2 .ensures)
-    (ended .middle-rounds .ensures ∙ ap (λ (s : List ℕ). rounds keys s (roundCount (start .args .width) - 1)) whitened)
+    record {
+      block =
+          c .block-of .ensures
+          ∙ c .before .last-round .ensures
+          ∙ ap₂ (λ (k s : List ℕ). addRoundKey k (shiftRows (subBytes s))) (c .before .before .round-key2 .ensures)
+          (ended .middle-rounds .ensures ∙ ap (λ (s : List ℕ). rounds keys s (roundCount (start .args .width) - 1)) whitened);
+      work = refl;
+    }
 
 pub encrypt-spec : {M : Type 1} → statement M
 encrypt-spec = tie.close (tie.spec add-last state-of-requires round-key-requires add-requires sub-middle-rounds middle-rounds-requires round-key-requires-2 last-round-requires block-of-requires returns)

@@ -20,7 +20,12 @@ encrypt-requires : tie.Need-encrypt-requires
 encrypt-requires c κs = search needs
 
 returns : tie.Need-returns
-returns c = c .encrypt .ensures ∙ ap (cipher _ _) (c .before .xor-block .ensures ∙ ap (xors _) (c .before .before .load .ensures))
+returns c =
+    let made = c .encrypt .ensures in
+    record {
+      block = made .block ∙ ap (cipher _ _) (c .before .xor-block .ensures ∙ ap (xors _) (c .before .before .load .ensures));
+      work = made .work;
+    }
 
 pub absorb-spec : {M : Type 1} → statement M
 absorb-spec =

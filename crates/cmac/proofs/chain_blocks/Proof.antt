@@ -1,27 +1,32 @@
--- `cmac::chain_blocks` meets its contract: after i turns i blocks are in the chain.
+-- `cmac::chain_blocks` meets its contract: after i turns i blocks are in the chain, and counted.
 -- Assumes nothing.
 use mathlib.Core.Path.{_≡_, refl, ap, _∙_}
-use Prim.Native.Nat.{_-_, _≤_}
+use Prim.Native.Nat.{_+_, _-_, _≤_}
 use native.Mathlib.Omega.{arith}
 use borrow.Author.Needs.{needs}
 use Rattle.aes.specs.Cipher.{cipher}
-use Rattle.cmac.specs.Cmac.{chain}
-use Rattle.cmac.proofs.Laws.{chain-more}
+use Rattle.cmac.specs.Cmac.{chain, chainWork}
+use Rattle.cmac.proofs.Laws.{chain-work, chain-more}
 use Rattle.cmac.proofs.chain_blocks.Statement.{statement}
 use Rattle.cmac.proofs.chain_blocks.Tie as tie
 
 abbrev Inv-loop : tie.InvT-loop
-Inv-loop engine width keys s n b₀ i₀ b i = (i ≤ n) × (b ≡ chain (cipher width keys) b₀ s i)
+Inv-loop engine width keys s n block₀ work₀ i₀ block work i = (i ≤ n) × (block ≡ chain (cipher width keys) block₀ s i) × (work ≡ chainWork i)
 
 abbrev μ-loop : tie.MeasureT-loop
-μ-loop engine width keys s n b₀ i₀ b i = n - i
+μ-loop engine width keys s n block₀ work₀ i₀ block work i = n - i
 
 loop-holds : tie.Need-loop-holds Inv-loop μ-loop
-unfolding chain
-loop-holds c = (omega arith, refl)
+unfolding chain chainWork
+loop-holds c = (omega arith, refl, refl)
 
 absorb-requires : tie.Need-absorb-requires Inv-loop μ-loop
 absorb-requires c κs = search needs
+
+add-work : tie.Need-add-work Inv-loop μ-loop
+add-work c =
+    let head = c .before .before .before .before in
+    omega (arith, c .before .before .absorb .ensures .work, head .loop .inv .2, chain-work (head .loop .i))
 
 add-i : tie.Need-add-i Inv-loop μ-loop
 add-i c = search needs
@@ -30,14 +35,19 @@ loop-less : tie.Need-loop-less Inv-loop μ-loop
 loop-less c = search needs
 
 loop-again : tie.Need-loop-again Inv-loop μ-loop
-loop-again c = (omega arith, chain-more _ _ _ _ (c .before .before .loop .inv .1) (c .absorb .ensures))
+loop-again c =
+    let head = c .before .before .before .before in
+    let next = c .before .before .absorb .ensures in
+    let i = head .loop .i in
+    (omega arith, chain-more _ _ _ _ (head .loop .inv .1) (next .block), omega (arith, next .work, head .loop .inv .2, chain-work i, chain-work (i + 1)))
 
 returns : tie.Need-returns Inv-loop μ-loop
 returns c =
     let done : c .before .loop .i ≡ c .before .before .before .args .n = omega arith in
-    c .before .loop .inv .1 ∙ ap (chain _ _ _) done
+    let inv = c .before .loop .inv in
+    record { block = inv .1 ∙ ap (chain _ _ _) done; work = inv .2 ∙ ap chainWork done }
 
 pub chain-blocks-spec : {M : Type 1} → statement M
 chain-blocks-spec =
     tie.close
-    (tie.spec Inv-loop μ-loop loop-holds absorb-requires add-i loop-less loop-again returns)
+    (tie.spec Inv-loop μ-loop loop-holds absorb-requires add-work add-i loop-less loop-again returns)
