@@ -1,18 +1,20 @@
 -- Laws of doubling, padding, the chain and CMAC, over any block function E.
 -- Assumes nothing.
 use mathlib.Core.Path.{_≡_, refl, ap, ap₂, sym, subst, _∙_}
+use mathlib.Core.Bool.{Bool, true, false, cond}
 use mathlib.Core.List.{List, [], _∷_, _++_}
 use Prim.Native.Nat.{ℕ, zero, suc, _+_, _-_, _*_, _/_, _%_, _≤_, _<_}
 use native.Mathlib.Nat.{le-of-suc-le-suc, not-suc-le-zero, add-zero, add-suc, zero-add}
 use native.Mathlib.Numerals.{add-one}
 use native.Mathlib.Omega.{arith}
 use lib.Bits.{bitXor}
+use lib.Dec.{ltb}
 use lib.ListN.{length, getD, take, drop, set, replicate, length-append, length-drop, length-replicate, List·getD-eq-default}
 use lib.Seq.{drop-drop, drop-at, drop-append-le, take-append-le, append-snoc, length-take-le, take-suc}
 use Rattle.octets.specs.Octets.{xors, part}
-use Rattle.octets.proofs.Strings.{Written, written-more, written-all, put-all, xors-nil, xors-zeros}
+use Rattle.octets.proofs.Strings.{Written, written-more, written-all, put-all, length-xors, xors-nil, xors-zeros}
 use Rattle.cmac.specs.declared.Subkeys.{Subkeys}
-use Rattle.cmac.specs.Cmac.{shifted, pad, PaddingFolds, lastBlock, blocksBefore, chain, chainWork, cmacFrom, cmacWork}
+use Rattle.cmac.specs.Cmac.{shifted, remainder, double, pad, PaddingFolds, lastBlock, blocksBefore, chain, chainWork, cmacFrom, cmacWork}
 
 -- ---- doubling
 
@@ -29,6 +31,14 @@ getD-shifted (b ∷ []) zero h = sym (add-zero (2 * b % 256))
 getD-shifted (b ∷ []) (suc i) h = absurd (not-suc-le-zero (le-of-suc-le-suc h))
 getD-shifted (b ∷ (c ∷ l)) zero h = refl
 getD-shifted (b ∷ (c ∷ l)) (suc i) h = getD-shifted (c ∷ l) i (le-of-suc-le-suc h)
+
+pub length-double : (b : List ℕ) → length (double b) ≡ length b
+unfolding double
+length-double b = go (ltb (getD b 0 0) 128)
+  where
+    go : (t : Bool) → length (cond t (shifted b) (xors (shifted b) remainder)) ≡ length b
+    go true = length-shifted b
+    go false = length-xors (shifted b) remainder ∙ length-shifted b
 
 -- a turn of the loop that shifts: one byte more is written
 pub shifted-more : (b r : List ℕ) (i v : ℕ) → i < length b → v ≡ 2 * getD b i 0 % 256 + getD b (i + 1) 0 / 128

@@ -2,20 +2,20 @@
 -- Assumes nothing.
 use mathlib.Core.Path.{_≡_, refl, ap, ap₂, sym, _∙_}
 use mathlib.Core.List.{List, [], _∷_, _++_, append-assoc}
-use Prim.Native.Nat.{ℕ, _+_, _-_, _*_, _/_, _%_, _≤_, _<_}
+use Prim.Native.Nat.{ℕ, _+_, _-_, _*_, _/_, _%_, _≤_, _<_, _^_}
 use native.Mathlib.Decide.{decLt}
 use native.Mathlib.Omega.{arith}
-use lib.ListN.{length, getD, take, drop, length-append, length-drop, take-append-drop}
+use lib.ListN.{length, getD, take, drop, length-append, length-take, length-drop, take-append-drop}
 use lib.Seq.{take-all, take-append-le, length-take-le, take-append-add, drop-append-add}
 use borrow.Author.Tests.{lt-ltb, le-ltb}
 use Rattle.octets.specs.Octets.{xors, put, part}
 use Rattle.octets.proofs.Strings.{length-xors, length-put, take-put}
 use Rattle.cmac.specs.declared.Subkeys.{Subkeys}
-use Rattle.cmac.specs.Cmac.{zeros, double, chain, cmacFrom, cmac}
-use Rattle.cmac.proofs.Laws.{chain-front, cmac-split}
+use Rattle.cmac.specs.Cmac.{zeros, double, pad, blocksBefore, chain, cmacFrom, cmacWork, cmac}
+use Rattle.cmac.proofs.Laws.{length-double, cmac-work, chain-front, cmac-split}
 use Rattle.header.specs.Header.{total, strings}
-use Rattle.header.proofs.Laws.{strings-more}
-use Rattle.s2v.specs.S2v.{absorbStrings, xorend, lastString, tailLength, tagFrom, tag}
+use Rattle.header.proofs.Laws.{total-take, strings-more}
+use Rattle.s2v.specs.S2v.{xorend, lastString, tailLength, absorbStrings, absorbWork, tagFrom, tagFromWork, tag}
 
 -- ---- the tail
 
@@ -37,6 +37,14 @@ pub tail : (n : ℕ) → Tail n
 tail n = go (decLt n 16)
   where
     go : Dec (n < 16) → Tail n
+    go (yes h) = let e : tailLength n ≡ n = tail-short n h in omega arith
+    go (no h) = let e : tailLength n ≡ 16 + n % 16 = tail-long n (omega arith) in omega arith
+
+-- the blocks before the tail and those before the tail's last are those before the whole's last
+pub tail-blocks : (n : ℕ) → (n - tailLength n) / 16 + blocksBefore (tailLength n) ≡ blocksBefore n
+tail-blocks n = go (decLt n 16)
+  where
+    go : Dec (n < 16) → (n - tailLength n) / 16 + blocksBefore (tailLength n) ≡ blocksBefore n
     go (yes h) = let e : tailLength n ≡ n = tail-short n h in omega arith
     go (no h) = let e : tailLength n ≡ 16 + n % 16 = tail-long n (omega arith) in omega arith
 
@@ -111,6 +119,15 @@ module _ (E : List ℕ → List ℕ) (k : Subkeys) (d : List ℕ) where
           ap (λ (n : ℕ). tagFrom E k d (chain E zeros p (n / 16)) (drop n p)) front
       go (no h) = long (omega arith)
 
+-- a plaintext has one block more than stand before its last, and so has what the tag is the CMAC of
+pub tag-work : (d p : List ℕ) → length d ≡ 16 → tagFromWork d p ≡ blocksBefore (length p) + 1
+unfolding tagFromWork lastString
+tag-work d p e = cmac-work (lastString d p) ∙ go (decLt (length p) 16)
+  where
+    go : Dec (length p < 16) → blocksBefore (length (lastString d p)) + 1 ≡ blocksBefore (length p) + 1
+    go (yes h) = simp (lt-ltb (length p) 16 h) (omega (arith, length-xors (double d) (pad p), length-double d))
+    go (no h) = simp (le-ltb (length p) 16 (omega arith)) (omega (arith, length-xorend p d))
+
 -- ---- D over the header strings
 
 -- a list cut in two folds the same
@@ -118,6 +135,18 @@ pub absorb-append : (E : List ℕ → List ℕ) (k : Subkeys) (d : List ℕ) (a 
 unfolding absorbStrings
 absorb-append E k d [] b = refl
 absorb-append E k d (s ∷ a) b = absorb-append E k _ a b
+
+pub absorb-work-append : (w : ℕ) (a b : List (List ℕ)) → absorbWork w (a ++ b) ≡ absorbWork (absorbWork w a) b
+unfolding absorbWork
+absorb-work-append w [] b = refl
+absorb-work-append w (s ∷ a) b = absorb-work-append _ a b
+
+-- a string has a block at the most for every 16 bytes, and one
+pub absorb-work-most : (w : ℕ) (bytes lens : List ℕ) → 16 * absorbWork w (strings bytes lens) ≤ 16 * (w + length lens) + total lens
+unfolding absorbWork strings total
+absorb-work-most w bytes [] = omega arith
+absorb-work-most w bytes (n ∷ lens) =
+    omega (arith, absorb-work-most (w + cmacWork (take n bytes)) (drop n bytes) lens, cmac-work (take n bytes), length-take n bytes)
 
 -- D after the first i strings of a header list
 module _ (E : List ℕ → List ℕ) (k : Subkeys) (d bytes lens : List ℕ) where
@@ -134,3 +163,21 @@ module _ (E : List ℕ → List ℕ) (k : Subkeys) (d bytes lens : List ℕ) whe
   -- with all strings
   pub absorbed-all : (i : ℕ) → length lens ≤ i → absorbed i ≡ absorbStrings E k d (strings bytes lens)
   absorbed-all i h = ap (λ (l : List ℕ). absorbStrings E k d (strings bytes l)) (take-all i lens h)
+
+-- the work with them
+module _ (w : ℕ) (bytes lens : List ℕ) where
+  abbrev pub worked : ℕ → ℕ
+  worked i = absorbWork w (strings bytes (take i lens))
+
+  pub worked-more : (i : ℕ) → i < length lens → worked i + cmacWork (part bytes (total (take i lens)) (getD lens i 0)) ≡ worked (i + 1)
+  unfolding absorbWork
+  worked-more i h =
+      sym (absorb-work-append w (strings bytes (take i lens)) (part bytes (total (take i lens)) (getD lens i 0) ∷ []))
+      ∙ ap (absorbWork w) (sym (strings-more lens i h bytes))
+
+  pub worked-all : (i : ℕ) → length lens ≤ i → worked i ≡ absorbWork w (strings bytes lens)
+  worked-all i h = ap (λ (l : List ℕ). absorbWork w (strings bytes l)) (take-all i lens h)
+
+  -- it is far from the largest number
+  pub worked-most : (i : ℕ) → total lens < 2 ^ 64 → w + length lens ≤ 127 → worked i ≤ 2 ^ 62
+  worked-most i h few = omega (arith, absorb-work-most w bytes (take i lens), total-take lens i, length-take i lens)

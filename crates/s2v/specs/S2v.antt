@@ -1,4 +1,4 @@
--- S2V, RFC 5297 2.4, over any block function E.
+-- S2V, RFC 5297 2.4, over any block function E; beside what calls E stands its work, the number of these calls.
 -- Assumes nothing.
 use mathlib.Core.List.{List, [], _∷_, _++_}
 use mathlib.Core.Bool.{cond}
@@ -7,7 +7,7 @@ use lib.Dec.{ltb}
 use lib.ListN.{length, take, drop}
 use Rattle.octets.specs.Octets.{xors}
 use Rattle.cmac.specs.declared.Subkeys.{Subkeys}
-use Rattle.cmac.specs.Cmac.{zeros, double, pad, subkeys, cmacFrom, cmac, zeroCipher}
+use Rattle.cmac.specs.Cmac.{zeros, double, pad, subkeys, zeroCipher, zeroCipherWork, cmacFrom, cmacWork, cmac}
 
 -- RFC 5297 2.1, xorend: d xored onto the last 16 bytes of p
 unfoldable pub xorend : List ℕ → List ℕ → List ℕ
@@ -21,26 +21,41 @@ lastString d p = cond (ltb (length p) 16) (xors (double d) (pad p)) (xorend p d)
 unfoldable pub tailLength : ℕ → ℕ
 tailLength total = cond (ltb total 16) total (16 + total % 16)
 
-module _ (E : List ℕ → List ℕ) where
-  -- 2.4: D is doubled for each string and its CMAC is xored in
-  unfoldable pub absorbStrings : Subkeys → List ℕ → List (List ℕ) → List ℕ
-  absorbStrings k d [] = d
-  absorbStrings k d (s ∷ ss) = absorbStrings k (xors (double d) (cmac E k s)) ss
+-- 2.4: D is doubled for each string and its CMAC is xored in
+unfoldable pub absorbStrings : (List ℕ → List ℕ) → Subkeys → List ℕ → List (List ℕ) → List ℕ
+absorbStrings E k d [] = d
+absorbStrings E k d (s ∷ ss) = absorbStrings E k (xors (double d) (cmac E k s)) ss
 
-  -- 2.4: D over the header strings, from the CMAC of the zero block
-  unfoldable pub headerResult : Subkeys → List (List ℕ) → List ℕ
-  headerResult k ss = absorbStrings k (cmac E k zeros) ss
+-- with the work w before it
+unfoldable pub absorbWork : ℕ → List (List ℕ) → ℕ
+absorbWork w [] = w
+absorbWork w (s ∷ ss) = absorbWork (w + cmacWork s) ss
 
-  -- 2.4: V, where c is the chain over the plaintext's blocks before p
-  unfoldable pub tagFrom : Subkeys → List ℕ → List ℕ → List ℕ → List ℕ
-  tagFrom k d c p = cmacFrom E k c (lastString d p)
+-- 2.4: D over the header strings, from the CMAC of the zero block
+unfoldable pub headerResult : (List ℕ → List ℕ) → Subkeys → List (List ℕ) → List ℕ
+headerResult E k ss = absorbStrings E k (cmac E k zeros) ss
 
-  -- 2.4: V from D and the plaintext
-  unfoldable pub tag : Subkeys → List ℕ → List ℕ → List ℕ
-  tag k d p = tagFrom k d zeros p
+unfoldable pub headerWork : List (List ℕ) → ℕ
+headerWork ss = absorbWork (cmacWork zeros) ss
 
-  -- 2.4: S2V of the header strings and the plaintext
-  unfoldable pub s2v : List (List ℕ) → List ℕ → List ℕ
-  s2v ss p =
-      let k = subkeys (zeroCipher E) in
-      tag k (headerResult k ss) p
+-- 2.4: V, where c is the chain over the plaintext's blocks before p
+unfoldable pub tagFrom : (List ℕ → List ℕ) → Subkeys → List ℕ → List ℕ → List ℕ → List ℕ
+tagFrom E k d c p = cmacFrom E k c (lastString d p)
+
+unfoldable pub tagFromWork : List ℕ → List ℕ → ℕ
+tagFromWork d p = cmacWork (lastString d p)
+
+-- 2.4: V from D and the plaintext; its work is `tagFromWork` of all the plaintext
+unfoldable pub tag : (List ℕ → List ℕ) → Subkeys → List ℕ → List ℕ → List ℕ
+tag E k d p = tagFrom E k d zeros p
+
+-- 2.4: S2V of the header strings and the plaintext
+unfoldable pub s2v : (List ℕ → List ℕ) → List (List ℕ) → List ℕ → List ℕ
+s2v E ss p =
+    let k = subkeys (zeroCipher E) in
+    tag E k (headerResult E k ss) p
+
+unfoldable pub s2vWork : (List ℕ → List ℕ) → List (List ℕ) → List ℕ → ℕ
+s2vWork E ss p =
+    let k = subkeys (zeroCipher E) in
+    zeroCipherWork + headerWork ss + tagFromWork (headerResult E k ss) p

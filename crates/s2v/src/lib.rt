@@ -1,48 +1,53 @@
 // S2V, RFC 5297 2.4: the header result D and the tag V.
 ghost use mathlib.Core.Path.{_≡_};
-ghost use Prim.Native.Nat.{_≤_, _<_};
+ghost use Prim.Native.Nat.{_+_, _≤_, _<_, _^_};
 ghost use lib.ListN.{length};
 ghost use Rattle.aes.specs.Cipher.{cipher};
 ghost use Rattle.aes.specs.Engine.{Ready};
+ghost use Rattle.aes.specs.Work.{Reports};
 ghost use Rattle.octets.specs.Octets.{xors};
-ghost use Rattle.cmac.specs.Cmac.{cmacFrom, cmac, double, pad};
+ghost use Rattle.cmac.specs.Cmac.{double, pad, cmacFrom, cmacWork, cmac};
 ghost use Rattle.header.specs.Header.{total, strings};
-ghost use Rattle.s2v.specs.S2v.{absorbStrings, headerResult, xorend, tailLength, tagFrom, tag};
+ghost use Rattle.s2v.specs.S2v.{xorend, tailLength, absorbStrings, absorbWork, headerResult, headerWork, tagFrom, tagFromWork, tag};
+use aes::Counted;
 use aes::Engine;
 use aes::RoundKeys;
 use cmac::Subkeys;
 use octets::Block;
 
-// D with one string more: D doubled, xored with the CMAC of the string.
+// D with one string more: D doubled, xored with the CMAC of the string, whose work is added.
 fn absorb_string(
     engine: &Engine,
     width: usize,
     keys: &RoundKeys,
     k: Subkeys,
-    d: Block,
+    d: Counted,
     s: &[u8],
-) -> Block
-    requires { ⌜ Ready (now engine) × (width ≤ 32) ⌝ }
-    ensures { λ r. ⌜ r ≡ xors (double d) (cmac (cipher width (now (keys .entry))) k (now (s .entry))) ⌝ }
+) -> Counted
+    requires { ⌜ Ready (now engine) × (width ≤ 32) × (d .work ≤ 2 ^ 62) ⌝ }
+    ensures { λ r. ⌜ Reports (xors (double (d .block)) (cmac (cipher width (now (keys .entry))) k (now (s .entry)))) (d .work + cmacWork (now (s .entry))) r ⌝ }
 {
-    octets::xor_block(
-        cmac::double(d),
-        cmac::cmac_from(engine, width, keys, k, [0u8; 16], s),
-    )
+    let before = d.block;
+    let mac = cmac::cmac_from(engine, width, keys, k, [0u8; 16], s);
+    let m = mac.block;
+    Counted {
+        block: octets::xor_block(cmac::double(before), m),
+        work: d.work + mac.work,
+    }
 }
 
-// D from d on over the strings of a header list: one reader is made at the front and moved on over each string.
+// D from d on over the strings of a header list, and the work from d's on: one reader is made at the front and moved on over each string.
 pub fn absorb_strings(
     engine: &Engine,
     width: usize,
     keys: &RoundKeys,
     k: Subkeys,
-    d: Block,
+    d: Counted,
     bytes: &[u8],
     lens: &[u32],
-) -> Block
-    requires { ⌜ Ready (now engine) × (width ≤ 32) × (total (now lens) ≤ length (now bytes)) ⌝ }
-    ensures { λ r. ⌜ r ≡ absorbStrings (cipher width (now (keys .entry))) k d (strings (now (bytes .entry)) (now (lens .entry))) ⌝ }
+) -> Counted
+    requires { ⌜ Ready (now engine) × (width ≤ 32) × (total (now lens) ≤ length (now bytes)) × (d .work + length (now lens) ≤ 127) ⌝ }
+    ensures { λ r. ⌜ Reports (absorbStrings (cipher width (now (keys .entry))) k (d .block) (strings (now (bytes .entry)) (now (lens .entry)))) (absorbWork (d .work) (strings (now (bytes .entry)) (now (lens .entry)))) r ⌝ }
 {
     let mut b = d;
     let mut reader = header::reader::new(bytes, 0);
@@ -64,9 +69,9 @@ pub fn make_header_result(
     k: Subkeys,
     bytes: &[u8],
     lens: &[u32],
-) -> Block
-    requires { ⌜ Ready (now engine) × (width ≤ 32) × (total (now lens) ≤ length (now bytes)) ⌝ }
-    ensures { λ r. ⌜ r ≡ headerResult (cipher width (now (keys .entry))) k (strings (now (bytes .entry)) (now (lens .entry))) ⌝ }
+) -> Counted
+    requires { ⌜ Ready (now engine) × (width ≤ 32) × (total (now lens) ≤ length (now bytes)) × (length (now lens) ≤ 126) ⌝ }
+    ensures { λ r. ⌜ Reports (headerResult (cipher width (now (keys .entry))) k (strings (now (bytes .entry)) (now (lens .entry)))) (headerWork (strings (now (bytes .entry)) (now (lens .entry)))) r ⌝ }
 {
     let zero = [0u8; 16];
     let d = cmac::cmac_from(engine, width, keys, k, zero, &zero);
@@ -92,9 +97,9 @@ fn tag_short(
     d: Block,
     c: Block,
     p: &[u8],
-) -> Block
+) -> Counted
     requires { ⌜ Ready (now engine) × (width ≤ 32) × (length (now p) < 16) ⌝ }
-    ensures { λ r. ⌜ r ≡ cmacFrom (cipher width (now (keys .entry))) k c (xors (double d) (pad (now (p .entry)))) ⌝ }
+    ensures { λ r. ⌜ Reports (cmacFrom (cipher width (now (keys .entry))) k c (xors (double d) (pad (now (p .entry))))) (cmacWork (xors (double d) (pad (now (p .entry))))) r ⌝ }
 {
     let t = cmac::xor_padded(cmac::double(d), p);
     cmac::cmac_from(engine, width, keys, k, c, &t)
@@ -109,9 +114,9 @@ fn tag_long(
     d: Block,
     c: Block,
     p: &[u8],
-) -> Block
+) -> Counted
     requires { ⌜ Ready (now engine) × (width ≤ 32) × (16 ≤ length (now p)) × (length (now p) < 32) ⌝ }
-    ensures { λ r. ⌜ r ≡ cmacFrom (cipher width (now (keys .entry))) k c (xorend (now (p .entry)) d) ⌝ }
+    ensures { λ r. ⌜ Reports (cmacFrom (cipher width (now (keys .entry))) k c (xorend (now (p .entry)) d)) (cmacWork (xorend (now (p .entry)) d)) r ⌝ }
 {
     let n = p.len();
     let at = n - 16;
@@ -130,9 +135,9 @@ pub fn tag_from(
     d: Block,
     c: Block,
     p: &[u8],
-) -> Block
+) -> Counted
     requires { ⌜ Ready (now engine) × (width ≤ 32) × (length (now p) < 32) ⌝ }
-    ensures { λ r. ⌜ r ≡ tagFrom (cipher width (now (keys .entry))) k d c (now (p .entry)) ⌝ }
+    ensures { λ r. ⌜ Reports (tagFrom (cipher width (now (keys .entry))) k d c (now (p .entry))) (tagFromWork d (now (p .entry))) r ⌝ }
 {
     if p.len() < 16 {
         return tag_short(engine, width, keys, k, d, c, p);
@@ -141,12 +146,25 @@ pub fn tag_from(
 }
 
 // V from D and the plaintext.
-pub fn tag(engine: &Engine, width: usize, keys: &RoundKeys, k: Subkeys, d: Block, p: &[u8]) -> Block
+pub fn tag(
+    engine: &Engine,
+    width: usize,
+    keys: &RoundKeys,
+    k: Subkeys,
+    d: Block,
+    p: &[u8],
+) -> Counted
     requires { ⌜ Ready (now engine) × (width ≤ 32) ⌝ }
-    ensures { λ r. ⌜ r ≡ tag (cipher width (now (keys .entry))) k d (now (p .entry)) ⌝ }
+    ensures { λ r. ⌜ Reports (tag (cipher width (now (keys .entry))) k d (now (p .entry))) (tagFromWork d (now (p .entry))) r ⌝ }
 {
     let n = p.len();
     let at = n - tail_len(n);
-    let c = cmac::chain_blocks(engine, width, keys, [0u8; 16], p, at / 16);
-    tag_from(engine, width, keys, k, d, c, &p[at..])
+    let before = cmac::chain_blocks(engine, width, keys, [0u8; 16], p, at / 16);
+    let c = before.block;
+    let end = tag_from(engine, width, keys, k, d, c, &p[at..]);
+    let block = end.block;
+    Counted {
+        block,
+        work: before.work + end.work,
+    }
 }

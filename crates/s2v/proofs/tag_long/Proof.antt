@@ -8,7 +8,7 @@ use Prim.Native.Nat.{ℕ, _-_}
 use native.Mathlib.Nat.{sub-zero}
 use native.Mathlib.Omega.{arith}
 use lib.ListN.{length, take, replicate}
-use Rattle.cmac.specs.Cmac.{cmacFrom}
+use Rattle.cmac.specs.Cmac.{cmacFrom, cmacWork}
 use Rattle.octets.proofs.Strings.{part-rest}
 use Rattle.s2v.proofs.Laws.{xorend-buffer}
 use Rattle.s2v.proofs.tag_long.Statement.{statement}
@@ -61,9 +61,11 @@ returns c =
     let p = args .p .now in
     let d = args .t5 in
     let at : ℕ = length p - 16 in
-    c .cmac-from .ensures ∙ ap (cmacFrom _ _ _)
-    (ap₂ take (sub-zero (length p)) (written ∙ ap₂ (λ (z s : List ℕ). put z at (xors s d)) copied (part-rest p at))
-    ∙ xorend-buffer (replicate 32 0) p d at (omega arith) (omega arith))
+    let text =
+    ap₂ take (sub-zero (length p)) (written ∙ ap₂ (λ (z s : List ℕ). put z at (xors s d)) copied (part-rest p at))
+    ∙ xorend-buffer (replicate 32 0) p d at (omega arith) (omega arith) in
+    let mac = c .cmac-from .ensures in
+    record { block = mac .block ∙ ap (cmacFrom _ _ _) text; work = mac .work ∙ ap cmacWork text }
 
 pub tag-long-spec : {M : Type 1} → statement M
 tag-long-spec =

@@ -5,7 +5,7 @@ use mathlib.Core.Path.{ap, _∙_}
 use mathlib.Core.List.{List}
 use Prim.Native.Nat.{ℕ}
 use Rattle.octets.specs.Octets.{xors}
-use Rattle.cmac.specs.Cmac.{pad, cmacFrom}
+use Rattle.cmac.specs.Cmac.{pad, cmacFrom, cmacWork}
 use Rattle.s2v.proofs.tag_short.Statement.{statement}
 use Rattle.s2v.proofs.tag_short.Tie as tie
 
@@ -24,8 +24,9 @@ cmac-from-requires c κs = search needs
 returns : tie.Need-returns
 returns c =
     let p = c .before .before .before .before .before .args .p .now in
-    c .cmac-from .ensures
-    ∙ ap (cmacFrom _ _ _) (c .before .before .xor-padded .ensures ∙ ap (λ (l : List ℕ). xors l (pad p)) (c .before .before .before .double .ensures))
+    let text = c .before .before .xor-padded .ensures ∙ ap (λ (l : List ℕ). xors l (pad p)) (c .before .before .before .double .ensures) in
+    let mac = c .cmac-from .ensures in
+    record { block = mac .block ∙ ap (cmacFrom _ _ _) text; work = mac .work ∙ ap cmacWork text }
 
 pub tag-short-spec : {M : Type 1} → statement M
 tag-short-spec =
