@@ -1,4 +1,4 @@
--- A prepared head on every input: number, length and the head, from slip 2 of document 02; RFC 5297 2.4 takes the strings in order, so D over the first can be kept (source document 004, section 4).
+-- A prepared head on every input: number, length, work and the head, from slips 2 and 5 of document 02; RFC 5297 2.4 takes the strings in order, so D over the first can be kept (source document 004, section 4).
 -- Assumes nothing.
 use mathlib.Core.Path.{_≡_}
 use mathlib.Core.Bool.{Bool, not, cond, _&&_}
@@ -9,9 +9,9 @@ use lib.ListN.{length, replicate}
 use Rattle.aes.specs.Aes.{isWidth}
 use Rattle.aes.specs.Cipher.{cipher}
 use Rattle.aes.specs.KeyExpansion.{roundKeys}
-use Rattle.cmac.specs.Cmac.{zeros, subkeys, zeroCipher}
+use Rattle.cmac.specs.Cmac.{zeros, subkeys, zeroCipher, zeroCipherWork}
 use Rattle.header.specs.Header.{total, strings}
-use Rattle.s2v.specs.S2v.{absorbStrings, headerResult}
+use Rattle.s2v.specs.S2v.{absorbStrings, absorbWork, headerResult, headerWork}
 use Rattle.siv.specs.Answer.{Outcome, success, withoutLength, outcomeOf, Row, row, first}
 use Rattle.siv.specs.Calls.{headerRows}
 use Rattle.siv.specs.Siv.{macKey, ctrKey}
@@ -44,6 +44,9 @@ headOf key ss =
       count = length ss;
     }
 
+unfoldable pub headOfWork : List (List ℕ) → ℕ
+headOfWork ss = zeroCipherWork + headerWork ss
+
 -- a head with the next strings: D goes on over them, and they are counted
 unfoldable pub extended : Head → List (List ℕ) → Head
 extended h ss =
@@ -55,6 +58,9 @@ extended h ss =
       d = absorbStrings (cipher (h .width) (h .«mac_keys»)) (subkeys (h .l)) (h .d) ss;
       count = h .count + length ss;
     }
+
+unfoldable pub extendedWork : List (List ℕ) → ℕ
+extendedWork ss = absorbWork 0 ss
 
 -- what refusal 9 judges of a head: the key width, and the count of its strings
 unfoldable pub fitsHead : Head → Bool
@@ -72,17 +78,22 @@ pub record MakeResult : Type 0 where
 
 -- a call gave what its definition says
 pub record DidMake (result : MakeResult) (made : Made) : Type 0 where
-  pub outcome : outcomeOf (made .answer) ≡ result .outcome
+  pub outcome : outcomeOf (made .answer) (made .work) ≡ result .outcome
   pub head : made .head ≡ result .head
 
--- the result of a call whose rows give a number: success with a head, or the refusal with the head all zero
-abbrev pub settleHead : ℕ → Head → MakeResult
-settleHead n h = cond (eqb n 0) (record { outcome = success 0; head = h }) (record { outcome = withoutLength n; head = zeroHead })
+-- success with a head and its work
+abbrev pub madeHead : ℕ → Head → MakeResult
+madeHead w h = record { outcome = success 0 w; head = h }
+
+-- the result of a call whose rows give a number: that success, or the refusal with the head all zero
+abbrev pub settleHead : ℕ → ℕ → Head → MakeResult
+settleHead n w h = cond (eqb n 0) (madeHead w h) (record { outcome = withoutLength n; head = zeroHead })
 
 -- make a head from a key and the first strings of a header list
 unfoldable pub makeHead : List ℕ → List ℕ → List ℕ → MakeResult
-makeHead key bytes lens = settleHead (first (headerRows (length key) lens (length bytes))) (headOf key (strings bytes lens))
+makeHead key bytes lens =
+    settleHead (first (headerRows (length key) lens (length bytes))) (headOfWork (strings bytes lens)) (headOf key (strings bytes lens))
 
 -- extend a head by the next strings
 unfoldable pub extendHead : Head → List ℕ → List ℕ → MakeResult
-extendHead h bytes lens = settleHead (first (restRows h lens (length bytes))) (extended h (strings bytes lens))
+extendHead h bytes lens = settleHead (first (restRows h lens (length bytes))) (extendedWork (strings bytes lens)) (extended h (strings bytes lens))

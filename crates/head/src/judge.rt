@@ -18,7 +18,7 @@ fn fits(head: Head) -> bool
 
 // The refusals of a head and the strings that follow its own.
 pub fn judge_rest(head: Head, lens: &[u32], rest_len: usize) -> Answer
-    ensures { λ r. ⌜ outcomeOf r ≡ withoutLength (first (restRows head (now (lens .entry)) «rest_len»)) ⌝ }
+    ensures { λ r. ⌜ outcomeOf r 0 ≡ withoutLength (first (restRows head (now (lens .entry)) «rest_len»)) ⌝ }
 {
     if !fits(head) {
         return Answer::Refused(Refusal::State);

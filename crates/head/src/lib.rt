@@ -23,9 +23,10 @@ pub struct Head {
     pub count: usize,
 }
 
-// What making a head hands back.
+// What making a head hands back; its work is 0 after a refusal, and what begins from the head leaves it out.
 pub struct Made {
     pub answer: Answer,
+    pub work: usize,
     pub head: Head,
 }
 
@@ -36,15 +37,9 @@ impl Head {
     {
         let answer = siv::judge::judge_header(key.len(), lens, header.len());
         if let Answer::Refused(_) = answer {
-            return Made {
-                answer,
-                head: work::zero_head(),
-            };
+            return work::refused(answer);
         }
-        Made {
-            answer: Answer::Ok(0),
-            head: work::head_of(key, header, lens),
-        }
+        work::head_of(key, header, lens)
     }
 
     // The head with the next strings of its header list. A refusal comes with a head that is all zero.
@@ -53,14 +48,8 @@ impl Head {
     {
         let answer = judge::judge_rest(self, lens, rest.len());
         if let Answer::Refused(_) = answer {
-            return Made {
-                answer,
-                head: work::zero_head(),
-            };
+            return work::refused(answer);
         }
-        Made {
-            answer: Answer::Ok(0),
-            head: work::extended(self, rest, lens),
-        }
+        work::extended(self, rest, lens)
     }
 }

@@ -10,12 +10,13 @@ use denote.Ref.{now}
 use Rattle.siv.specs.Answer.{Outcome, first, withoutLength}
 use Rattle.siv.specs.Calls.{isKeyLength, CallResult, sealCall, openCall, Lent}
 use Rattle.siv.specs.Ring.{ringRows, RingResult, refusedRing, openRing}
+use Rattle.siv.specs.Work.{plannedWork}
 
 -- the header list: associated data, then nonce
 abbrev pub aeadLens : ℕ → ℕ → List ℕ
 aeadLens ad nonce = ad ∷ nonce ∷ []
 
--- the number times 2 to the power 32, plus the length
+-- the number times 2 to the power 32, plus the length; the work is left out
 abbrev pub packed : Outcome → ℕ
 packed o = o .number * 4294967296 + o .count
 
@@ -77,3 +78,9 @@ PerformsRingFromC keyLength ring header ad nonce input output scratch given =
     DidPackedRing
     (openRingFromC keyLength (now (ring .entry)) (now (header .entry)) ad nonce (now (input .entry)) (now (output .entry)) (now (scratch .entry))) given
     (now (output .exit)) (now (scratch .exit))
+
+-- ---- planning
+
+-- the work that sealing and opening report for such lengths, which the number does not carry: 0 where the call is refused for them
+unfoldable pub plannedFromC : ℕ → ℕ → ℕ → ℕ
+plannedFromC ad nonce n = cond (eqb nonce 0) 0 (plannedWork (aeadLens ad nonce) n)

@@ -4,7 +4,7 @@ ghost use Prim.Native.Nat.{_≤_};
 ghost use Rattle.siv.specs.Answer.{numberOf, outcomeOf};
 ghost use Rattle.siv.specs.Calls.{limit};
 ghost use Rattle.kinphlor.specs.Interface.{packed, emptyNonce, sealFromC, openFromC, PerformsFromC};
-ghost use Rattle.kinphlor.specs.Interface.{packedRing, emptyNonceRing, PerformsRingFromC};
+ghost use Rattle.kinphlor.specs.Interface.{packedRing, emptyNonceRing, PerformsRingFromC, plannedFromC};
 use siv::Answer;
 use siv::Refusal;
 use siv::RingAnswer;
@@ -30,7 +30,7 @@ fn number(r: Refusal) -> u64
 
 // An answer as one number: its number times 2 to the power 32, plus its length.
 pub fn pack(a: Answer) -> u64
-    ensures { λ n. ⌜ n ≡ packed (outcomeOf a) ⌝ }
+    ensures { λ n. ⌜ n ≡ packed (outcomeOf a 0) ⌝ }
 {
     match a {
         Answer::Ok(n) => n as u64,
@@ -65,7 +65,9 @@ pub extern "C" fn kinphlor_seal(
         return pack(Answer::Refused(Refusal::EmptyNonce));
     }
     let lens = [ad_len, nonce_len];
-    pack(siv::seal(key, header, &lens, input, output, scratch))
+    let report = siv::seal(key, header, &lens, input, output, scratch);
+    let answer = report.answer;
+    pack(answer)
 }
 
 // Opens what kinphlor_seal sealed.
@@ -85,13 +87,15 @@ pub extern "C" fn kinphlor_open(
         return pack(Answer::Refused(Refusal::EmptyNonce));
     }
     let lens = [ad_len, nonce_len];
-    pack(siv::open(key, header, &lens, input, output, scratch))
+    let report = siv::open(key, header, &lens, input, output, scratch);
+    let answer = report.answer;
+    pack(answer)
 }
 
 // A ring's answer as one number: the slot, times 2 to the power 28, stands between number and length.
 fn pack_ring(a: RingAnswer) -> u64
-    requires { ⌜ (a .slot ≤ 3) × (outcomeOf (a .answer) .count ≤ limit) ⌝ }
-    ensures { λ n. ⌜ n ≡ packedRing (a .slot) (outcomeOf (a .answer)) ⌝ }
+    requires { ⌜ (a .slot ≤ 3) × (outcomeOf (a .answer) 0 .count ≤ limit) ⌝ }
+    ensures { λ n. ⌜ n ≡ packedRing (a .slot) (outcomeOf (a .answer) 0) ⌝ }
 {
     let answer = a.answer;
     pack(answer) + (a.slot as u64) * 268435456
@@ -126,4 +130,16 @@ pub extern "C" fn kinphlor_open_ring(
     }
     let lens = [ad_len, nonce_len];
     pack_ring(siv::open_ring(key_len, ring, header, &lens, input, output, scratch))
+}
+
+// How many blocks the cipher will work to seal n bytes, or to open what that gives, with associated data and nonce of these lengths: for planning, from lengths alone. 0 where the call is refused for a length.
+#[no_mangle]
+pub extern "C" fn kinphlor_planned_work(ad_len: u32, nonce_len: u32, n: usize) -> u64
+    ensures { λ r. ⌜ r ≡ plannedFromC «ad_len» «nonce_len» n ⌝ }
+{
+    if nonce_len == 0 {
+        return 0;
+    }
+    let lens = [ad_len, nonce_len];
+    siv::planned_work(&lens, n) as u64
 }

@@ -8,10 +8,11 @@ use Rattle.siv.specs.declared.Refusal.the-variants.{KeyLength, HeaderCou
 use Rattle.siv.specs.declared.Answer.{Answer}
 use Rattle.siv.specs.declared.Answer.the-variants.{Ok, Refused}
 
--- the number and the length that a call returns
+-- the number and the length that a call returns, and its work in blocks
 pub record Outcome : Type 0 where
   pub number : ℕ
   pub count : ℕ
+  pub work : ℕ
 
 -- a refusal's number in the table
 abbrev pub numberOf : Refusal → ℕ
@@ -27,17 +28,20 @@ numberOf State = 9
 numberOf EmptyNonce = 10
 numberOf RingLength = 11
 
--- success with a length, and a number with length 0
-abbrev pub success : ℕ → Outcome
-success n = record { number = 0; count = n }
+-- success with a length and its work; a number with length 0 and no work; and 8, which has work
+abbrev pub success : ℕ → ℕ → Outcome
+success n w = record { number = 0; count = n; work = w }
 
 abbrev pub withoutLength : ℕ → Outcome
-withoutLength n = record { number = n; count = 0 }
+withoutLength n = record { number = n; count = 0; work = 0 }
 
--- every answer's number and length
-abbrev pub outcomeOf : Answer → Outcome
-outcomeOf (Ok n) = success n
-outcomeOf (Refused r) = withoutLength (numberOf r)
+abbrev pub forged : ℕ → Outcome
+forged w = record { number = 8; count = 0; work = w }
+
+-- every answer's number and length, with the work reported beside it
+abbrev pub outcomeOf : Answer → ℕ → Outcome
+outcomeOf (Ok n) w = success n w
+outcomeOf (Refused r) w = record { number = numberOf r; count = 0; work = w }
 
 -- a refusal with the condition under which it is due
 pub record Row : Type 0 where

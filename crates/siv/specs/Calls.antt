@@ -1,4 +1,4 @@
--- Whole sealing and opening on every input: number, length and the last contents of each lent buffer, from document 01.
+-- Whole sealing and opening on every input: number, length, work and the last contents of each lent buffer, from document 01 and slip 5 of document 02.
 -- Assumes nothing.
 use mathlib.Core.Path.{_≡_}
 use mathlib.Core.Bool.{Bool, true, not, cond, _||_}
@@ -10,9 +10,9 @@ use denote.Ref.{RefT, now}
 use denote.Triple.Both.{Both}
 use Rattle.octets.specs.Octets.{put}
 use Rattle.header.specs.Header.{total, strings}
-use Rattle.siv.specs.declared.Answer.{Answer}
+use Rattle.siv.specs.declared.Report.{Report}
 use Rattle.siv.specs.Answer.{Outcome, Row, row, first, outcomeOf}
-use Rattle.siv.specs.Siv.{sealed, opened, genuine}
+use Rattle.siv.specs.Siv.{sealed, sealedWork, opened, genuine, genuineWork}
 
 -- keys have 32, 48 or 64 bytes
 unfoldable pub isKeyLength : ℕ → Bool
@@ -42,17 +42,17 @@ openRows y output scratch =
 
 -- a key and a header list that the work can use: what the refusals leave is more
 abbrev pub Usable : List ℕ → List ℕ → List ℕ → Type 0
-Usable key bytes lens = (isKeyLength (length key) ≡ true) × (total lens ≤ length bytes)
+Usable key bytes lens = (isKeyLength (length key) ≡ true) × (total lens ≤ length bytes) × (length lens ≤ 126)
 
--- everything that a whole call does: number and length, and the last contents of output and scratch
+-- everything that a whole call does: number, length and work, and the last contents of output and scratch
 pub record CallResult : Type 0 where
   pub outcome : Outcome
   pub output : List ℕ
   pub scratch : List ℕ
 
 -- a call gave what its definition says
-pub record DidCall (result : CallResult) (answer : Answer) (lastOutput lastScratch : List ℕ) : Type 0 where
-  pub outcome : outcomeOf answer ≡ result .outcome
+pub record DidCall (result : CallResult) (report : Report) (lastOutput lastScratch : List ℕ) : Type 0 where
+  pub outcome : outcomeOf (report .answer) (report .work) ≡ result .outcome
   pub output : lastOutput ≡ result .output
   pub scratch : lastScratch ≡ result .scratch
 
@@ -70,7 +70,7 @@ module _ (key bytes lens input output scratch : List ℕ) where
       let n = length input in
       let done = eqb sealNumber 0 in
       record {
-        outcome = record { number = sealNumber; count = cond done (n + 16) 0 };
+        outcome = record { number = sealNumber; count = cond done (n + 16) 0; work = cond done (sealedWork key (strings bytes lens) input) 0 };
         output = cond done (put output 0 (sealed key (strings bytes lens) input)) output;
         scratch = cond done (put scratch 0 (replicate (scratchNeed n) 0)) scratch;
       }
@@ -91,7 +91,7 @@ module _ (key bytes lens input output scratch : List ℕ) where
       let done = eqb openNumber 0 in
       let forged = eqb openNumber 8 in
       record {
-        outcome = record { number = openNumber; count = cond done n 0 };
+        outcome = record { number = openNumber; count = cond done n 0; work = cond (done || forged) (genuineWork key (strings bytes lens) input) 0 };
         output = cond done (put output 0 (opened key input)) (cond forged (put output 0 (replicate n 0)) output);
         scratch = cond (done || forged) (put scratch 0 (replicate (scratchNeed n) 0)) scratch;
       }
@@ -100,8 +100,8 @@ module _ (key bytes lens input output scratch : List ℕ) where
 abbrev pub Lent : Type 0
 Lent = Both (RefT (List ℕ)) (RefT (List ℕ))
 
--- what a whole call promises: with what the lent slices held at entry, its answer and what output and scratch hold at exit are the definition's
-abbrev pub Performs : (List ℕ → List ℕ → List ℕ → List ℕ → List ℕ → List ℕ → CallResult) → Lent → Lent → Lent → Lent → Lent → Lent → Answer → Type 0
-Performs call key header lens input output scratch answer =
-    DidCall (call (now (key .entry)) (now (header .entry)) (now (lens .entry)) (now (input .entry)) (now (output .entry)) (now (scratch .entry))) answer
+-- what a whole call promises: with what the lent slices held at entry, its report and what output and scratch hold at exit are the definition's
+abbrev pub Performs : (List ℕ → List ℕ → List ℕ → List ℕ → List ℕ → List ℕ → CallResult) → Lent → Lent → Lent → Lent → Lent → Lent → Report → Type 0
+Performs call key header lens input output scratch report =
+    DidCall (call (now (key .entry)) (now (header .entry)) (now (lens .entry)) (now (input .entry)) (now (output .entry)) (now (scratch .entry))) report
     (now (output .exit)) (now (scratch .exit))

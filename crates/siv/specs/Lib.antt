@@ -2,3 +2,4 @@ pub mod Answer
 pub mod Siv
 pub mod Calls
 pub mod Ring
+pub mod Work

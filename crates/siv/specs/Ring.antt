@@ -1,9 +1,9 @@
--- Whole opening under a ring of keys on every input: number, length, slot and the last contents of each lent buffer, from slip 1 of document 02.
+-- Whole opening under a ring of keys on every input: number, length, slot, work and the last contents of each lent buffer, from slips 1 and 5 of document 02.
 -- Assumes nothing.
 use mathlib.Core.Path.{_≡_}
 use mathlib.Core.Bool.{Bool, not, cond, _||_}
 use mathlib.Core.List.{List, [], _∷_}
-use Prim.Native.Nat.{ℕ, zero, suc, _*_, _/_}
+use Prim.Native.Nat.{ℕ, zero, suc, _+_, _*_, _/_}
 use lib.Dec.{ltb, eqb}
 use lib.ListN.{length}
 use denote.Ref.{now}
@@ -28,6 +28,11 @@ abbrev pub firstSlot : (ℕ → Bool) → ℕ → ℕ → ℕ
 firstSlot test i zero = i
 firstSlot test i (suc n) = cond (test i) i (firstSlot test (suc i) n)
 
+-- the sum of a work over the slots that are tried, of the n from i on: up to the first that passes the test, and it too
+abbrev pub triedWork : (ℕ → Bool) → (ℕ → ℕ) → ℕ → ℕ → ℕ
+triedWork test work i zero = 0
+triedWork test work i (suc n) = work i + cond (test i) 0 (triedWork test work (suc i) n)
+
 -- the refusals that judge the stated key length and the ring
 abbrev pub ringRows : ℕ → ℕ → List Row
 ringRows keyLength n = row 1 (not (isKeyLength keyLength)) ∷ row 11 (not (isRing keyLength n)) ∷ []
@@ -44,21 +49,33 @@ refusedRing n output scratch = record { slot = 0; call = record { outcome = with
 -- a ring's call gave what its definition says
 pub record DidRing (result : RingResult) (given : RingAnswer) (lastOutput lastScratch : List ℕ) : Type 0 where
   pub slot : given .slot ≡ result .slot
-  pub call : DidCall (result .call) (given .answer) lastOutput lastScratch
+  pub call : DidCall (result .call) (record { answer = given .answer; work = given .work }) lastOutput lastScratch
 
 module _ (keyLength : ℕ) (ring bytes lens input output scratch : List ℕ) where
   -- whole opening with one slot's key
   abbrev pub openSlot : ℕ → CallResult
   openSlot i = openCall (slotKey keyLength ring i) bytes lens input output scratch
 
-  -- a refusal of the stated length or the ring; or the first slot whose key opens, or slot 0 where none does, and whole opening with its key
+  -- the same with the work of several
+  abbrev pub openSlotWith : ℕ → ℕ → CallResult
+  openSlotWith i work =
+      let call = openSlot i in
+      record {
+        outcome = record { number = call .outcome .number; count = call .outcome .count; work = work };
+        output = call .output;
+        scratch = call .scratch;
+      }
+
+  -- a refusal of the stated length or the ring; or the first slot whose key opens, or slot 0 where none does, and whole opening with its key, with the work of all keys tried
   unfoldable pub openRing : RingResult
   openRing =
       let refusal = first (ringRows keyLength (length ring)) in
       let count = slotCount keyLength (length ring) in
-      let found = firstSlot (λ i. eqb (openSlot i .outcome .number) 0) 0 count in
+      let opens = λ (i : ℕ). eqb (openSlot i .outcome .number) 0 in
+      let found = firstSlot opens 0 count in
       let slot = cond (ltb found count) found 0 in
-      cond (eqb refusal 0) (record { slot = slot; call = openSlot slot }) (refusedRing refusal output scratch)
+      let work = triedWork opens (λ i. openSlot i .outcome .work) 0 count in
+      cond (eqb refusal 0) (record { slot = slot; call = openSlotWith slot work }) (refusedRing refusal output scratch)
 
 -- what a ring's call promises: with what the lent slices held at entry, its answer, slot and what output and scratch hold at exit are the definition's
 abbrev pub PerformsRing : ℕ → Lent → Lent → Lent → Lent → Lent → Lent → RingAnswer → Type 0

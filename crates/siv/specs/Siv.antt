@@ -1,13 +1,13 @@
--- AES-SIV, RFC 5297, 2.6 and 2.7, under a key of two halves.
+-- AES-SIV, RFC 5297, 2.6 and 2.7, under a key of two halves; beside what calls the cipher stands its work, the number of these calls.
 -- Assumes nothing.
 use mathlib.Core.Bool.{Bool}
 use mathlib.Core.List.{List, _++_}
-use Prim.Native.Nat.{ℕ, _/_}
+use Prim.Native.Nat.{ℕ, _+_, _/_}
 use lib.ListN.{length, take, drop}
 use Rattle.octets.specs.Octets.{same}
 use Rattle.aes.specs.Aes.{aes}
-use Rattle.s2v.specs.S2v.{s2v}
-use Rattle.ctr.specs.Counter.{xorStream}
+use Rattle.s2v.specs.S2v.{s2v, s2vWork}
+use Rattle.ctr.specs.Counter.{keyStreamWork, xorStream}
 
 -- 2.6: the first half of the key serves S2V, the second half the counter
 abbrev pub macKey : List ℕ → List ℕ
@@ -20,15 +20,24 @@ ctrKey key = drop (length key / 2) key
 unfoldable pub tagOf : List ℕ → List (List ℕ) → List ℕ → List ℕ
 tagOf key ss p = s2v (aes (macKey key)) ss p
 
+unfoldable pub tagOfWork : List ℕ → List (List ℕ) → List ℕ → ℕ
+tagOfWork key ss p = s2vWork (aes (macKey key)) ss p
+
 -- 2.6: s xored with the key stream of a tag
 unfoldable pub streamed : List ℕ → List ℕ → List ℕ → List ℕ
 streamed key v s = xorStream (aes (ctrKey key)) v 0 s
+
+unfoldable pub streamedWork : List ℕ → ℕ
+streamedWork s = keyStreamWork (length s)
 
 -- 2.6: the sealed string: V, then the ciphertext
 unfoldable pub sealed : List ℕ → List (List ℕ) → List ℕ → List ℕ
 sealed key ss p =
     let v = tagOf key ss p in
     v ++ streamed key v p
+
+unfoldable pub sealedWork : List ℕ → List (List ℕ) → List ℕ → ℕ
+sealedWork key ss p = tagOfWork key ss p + streamedWork p
 
 -- 2.7: the plaintext that a sealed string would have
 unfoldable pub opened : List ℕ → List ℕ → List ℕ
@@ -37,3 +46,7 @@ opened key y = streamed key (take 16 y) (drop 16 y)
 -- 2.7: whether the recomputed tag is the given one
 unfoldable pub genuine : List ℕ → List (List ℕ) → List ℕ → Bool
 genuine key ss y = same (tagOf key ss (opened key y)) (take 16 y)
+
+-- with that of `opened`
+unfoldable pub genuineWork : List ℕ → List (List ℕ) → List ℕ → ℕ
+genuineWork key ss y = streamedWork (drop 16 y) + tagOfWork key ss (opened key y)

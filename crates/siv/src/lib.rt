@@ -3,8 +3,11 @@ pub mod judge;
 mod work;
 
 ghost use mathlib.Core.Path.{_≡_};
+ghost use Prim.Native.Nat.{_≤_};
+ghost use lib.ListN.{length};
 ghost use Rattle.siv.specs.Calls.{isKeyLength, sealCall, openCall, Performs};
 ghost use Rattle.siv.specs.Ring.{PerformsRing};
+ghost use Rattle.siv.specs.Work.{blocksOf, blocksOfAll, plannedWork};
 
 // The longest plaintext.
 pub const LIMIT: usize = 1048576;
@@ -44,10 +47,17 @@ pub enum Answer {
     Refused(Refusal),
 }
 
-// An answer, and the slot of the ring whose key opened; 0 after a refusal.
+// An answer, and how many blocks the cipher worked for it: 0 after a refusal other than Forged, which took as many as success.
+pub struct Report {
+    pub answer: Answer,
+    pub work: usize,
+}
+
+// An answer, the slot of the ring whose key opened, which is 0 after a refusal, and the work for all keys that were tried.
 pub struct RingAnswer {
     pub answer: Answer,
     pub slot: usize,
+    pub work: usize,
 }
 
 // Whether a key may have n bytes.
@@ -71,7 +81,7 @@ pub fn seal(
     input: &[u8],
     output: &mut [u8],
     scratch: &mut [u8],
-) -> Answer
+) -> Report
     ensures { λ r. ⌜ Performs sealCall key header lens input output scratch r ⌝ }
 {
     let n = input.len();
@@ -84,11 +94,14 @@ pub fn seal(
         scratch.len(),
     );
     if let Answer::Refused(_) = answer {
-        return answer;
+        return Report { answer, work: 0 };
     }
-    work::seal_admitted(key, header, lens, input, output);
+    let work = work::seal_admitted(key, header, lens, input, output);
     octets::zero_at(scratch, 0, judge::scratch_need(n));
-    Answer::Ok(n + TAG_LEN)
+    Report {
+        answer: Answer::Ok(n + TAG_LEN),
+        work,
+    }
 }
 
 // Opens a sealed string under a key and a header list: the plaintext to the front of output, once it is approved.
@@ -99,7 +112,7 @@ pub fn open(
     input: &[u8],
     output: &mut [u8],
     scratch: &mut [u8],
-) -> Answer
+) -> Report
     ensures { λ r. ⌜ Performs openCall key header lens input output scratch r ⌝ }
 {
     let y = input.len();
@@ -112,10 +125,13 @@ pub fn open(
         scratch.len(),
     );
     if let Answer::Refused(_) = answer {
-        return answer;
+        return Report { answer, work: 0 };
     }
-    let genuine = work::open_admitted(key, header, lens, input, scratch);
-    work::deliver(genuine, y - TAG_LEN, output, scratch)
+    let tried = work::open_admitted(key, header, lens, input, scratch);
+    Report {
+        answer: work::deliver(tried.genuine, y - TAG_LEN, output, scratch),
+        work: tried.work,
+    }
 }
 
 // Opens a sealed string under the first key of a ring that opens it: the ring is one to four keys of key_len bytes, tried from slot 0.
@@ -141,13 +157,63 @@ pub fn open_ring(
         scratch.len(),
     );
     if let Answer::Refused(_) = answer {
-        return RingAnswer { answer, slot: 0 };
+        return RingAnswer {
+            answer,
+            slot: 0,
+            work: 0,
+        };
     }
     let slots = ring.len() / key_len;
-    let slot = work::first_slot(key_len, slots, ring, header, lens, input, scratch);
+    let found = work::first_slot(key_len, slots, ring, header, lens, input, scratch);
+    let slot = found.slot;
     let answer = work::deliver(slot < slots, y - TAG_LEN, output, scratch);
     if slot < slots {
-        return RingAnswer { answer, slot };
+        return RingAnswer {
+            answer,
+            slot,
+            work: found.work,
+        };
     }
-    RingAnswer { answer, slot: 0 }
+    RingAnswer {
+        answer,
+        slot: 0,
+        work: found.work,
+    }
+}
+
+// How many blocks a string of n bytes has.
+fn blocks_of(n: usize) -> usize
+    ensures { λ r. ⌜ r ≡ blocksOf n ⌝ }
+{
+    if n == 0 {
+        return 1;
+    }
+    (n - 1) / 16 + 1
+}
+
+// The blocks of strings of these lengths.
+fn blocks_of_all(lens: &[u32]) -> usize
+    requires { ⌜ length (now lens) ≤ 126 ⌝ }
+    ensures { λ r. ⌜ r ≡ blocksOfAll (now (lens .entry)) ⌝ }
+{
+    let mut blocks = 0;
+    let mut i = 0;
+    while i < lens.len() {
+        blocks = blocks + blocks_of(header::length_at(lens, i));
+        i += 1;
+    }
+    blocks
+}
+
+// What whole sealing of n bytes under header strings of these lengths, or opening of what it gives, will report as its work; 0 where it is refused for a length.
+pub fn planned_work(lens: &[u32], n: usize) -> usize
+    ensures { λ r. ⌜ r ≡ plannedWork (now (lens .entry)) n ⌝ }
+{
+    if header::too_many(lens.len()) {
+        return 0;
+    }
+    if LIMIT < n {
+        return 0;
+    }
+    2 + blocks_of_all(lens) + blocks_of(n) + (n + 15) / 16
 }

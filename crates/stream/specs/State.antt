@@ -1,15 +1,16 @@
--- The stream state: which ones a call takes, and what a piece makes of one. Document 01, "Piecewise calls".
+-- The stream state: which ones a call takes, and what a piece makes of one. Document 01, "Piecewise calls", and slips 4 and 5 of document 02.
 -- Assumes nothing.
-use mathlib.Core.Bool.{Bool, true, not, cond, _&&_}
+use mathlib.Core.Bool.{Bool, true, not, cond, _&&_, _||_}
 use mathlib.Core.List.{List, [], _∷_, _++_}
-use Prim.Native.Nat.{ℕ, _+_, _-_, _*_, _/_}
+use Prim.Native.Nat.{ℕ, _+_, _-_, _*_, _/_, _%_}
 use lib.Dec.{eqb, ltb}
 use lib.ListN.{length, take, drop, replicate}
 use Rattle.octets.specs.Octets.{put}
 use Rattle.aes.specs.Aes.{isWidth}
 use Rattle.aes.specs.Cipher.{cipher}
-use Rattle.cmac.specs.Cmac.{zeros, chain, subkeys}
-use Rattle.s2v.specs.S2v.{tailLength, tagFrom}
+use Rattle.cmac.specs.Cmac.{zeros, subkeys, chain, chainWork}
+use Rattle.s2v.specs.S2v.{tailLength, tagFrom, tagFromWork}
+use Rattle.ctr.specs.Counter.{xorPiece, keptAfter}
 use Rattle.siv.specs.Calls.{limit}
 use Rattle.head.specs.declared.Head.{Head}
 use Rattle.stream.specs.declared.Stream.{Stream}
@@ -26,6 +27,7 @@ ended =
       d = zeros;
       chain = zeros;
       v = zeros;
+      kept = zeros;
       total = 0;
       written = 0;
       «tail_len» = 0;
@@ -44,6 +46,7 @@ start h stage v =
       d = h .d;
       chain = zeros;
       v = v;
+      kept = zeros;
       total = 0;
       written = 0;
       «tail_len» = 0;
@@ -59,7 +62,15 @@ allZero (b ∷ l) = eqb b 0 && allZero l
 abbrev pub writtenLimit : ℕ → ℕ → ℕ
 writtenLimit stage total = cond (eqb stage 2) total 0
 
--- what refusal 9 judges, for a call that wants a stage: the stage, the key width, total and written within their limits, the tail's length by its rule, and the unused bytes of the tail zero
+-- how many bytes of the key stream are used: those written in stage 2, those fed in stage 3, none in stage 1
+abbrev pub streamPlace : ℕ → Stream → ℕ
+streamPlace stage s = cond (eqb stage 2) (s .written) (cond (eqb stage 3) (s .total) 0)
+
+-- the kept block is zero where they are whole blocks; else it is used as it is
+unfoldable pub keptFits : ℕ → Stream → Bool
+keptFits stage s = not (eqb (streamPlace stage s % 16) 0) || allZero (s .kept)
+
+-- what refusal 9 judges, for a call that wants a stage: the stage, the key width, total and written within their limits, the tail's length by its rule, the kept block, and the unused bytes of the tail zero
 unfoldable pub fits : ℕ → Stream → Bool
 fits wanted s =
     eqb (s .stage) wanted
@@ -67,6 +78,7 @@ fits wanted s =
     && not (ltb limit (s .total))
     && not (ltb (writtenLimit wanted (s .total)) (s .written))
     && eqb (s .«tail_len») (tailLength (s .total))
+    && keptFits wanted s
     && allZero (drop (tailLength (s .total)) (s .tail))
 
 -- the used bytes of the tail, which wait for the plaintext's end: "held bytes" of document 01
@@ -93,21 +105,59 @@ stateWith s c total len t =
       d = s .d;
       chain = c;
       v = s .v;
+      kept = s .kept;
       total = total;
       written = s .written;
       «tail_len» = len;
       tail = t;
     }
 
+-- how many blocks leave the tail with a piece of n bytes more
+abbrev pub leavingBlocks : Stream → ℕ → ℕ
+leavingBlocks s n = passedBlocks (s .total + n) - passedBlocks (s .total)
+
 -- the state with a piece of plaintext more: whole blocks go from the tail into the chain until a tail's length is left
 unfoldable pub added : Stream → List ℕ → Stream
 added s piece =
     let total = s .total + length piece in
-    let n = passedBlocks total - passedBlocks (s .total) in
+    let n = leavingBlocks s (length piece) in
     let text = usedTail s ++ piece in
     let c = chain (cipher (s .width) (s .«mac_keys»)) (s .chain) text n in
     stateWith s c total (tailLength total) (tailOf (drop (16 * n) text))
 
+unfoldable pub addedWork : Stream → ℕ → ℕ
+addedWork s n = chainWork (leavingBlocks s n)
+
 -- V of all that was added
 unfoldable pub tagOfState : Stream → List ℕ
 tagOfState s = tagFrom (cipher (s .width) (s .«mac_keys»)) (subkeys (s .l)) (s .d) (s .chain) (usedTail s)
+
+unfoldable pub tagOfStateWork : Stream → ℕ
+tagOfStateWork s = tagFromWork (s .d) (usedTail s)
+
+-- a piece xored with the state's key stream from a place of it on, the kept block first
+unfoldable pub streamedAt : Stream → ℕ → List ℕ → List ℕ
+streamedAt s place piece = xorPiece (cipher (s .width) (s .«ctr_keys»)) (s .v) (s .kept) place piece
+
+-- the block that is kept then
+unfoldable pub keptAt : Stream → ℕ → ℕ → List ℕ
+keptAt s place n = keptAfter (cipher (s .width) (s .«ctr_keys»)) (s .v) (s .kept) place n
+
+-- a state with another kept block and number of bytes written, and nothing else changed
+abbrev pub streamedWith : Stream → List ℕ → ℕ → Stream
+streamedWith s kept written =
+    record {
+      stage = s .stage;
+      width = s .width;
+      «mac_keys» = s .«mac_keys»;
+      «ctr_keys» = s .«ctr_keys»;
+      l = s .l;
+      d = s .d;
+      chain = s .chain;
+      v = s .v;
+      kept = kept;
+      total = s .total;
+      written = written;
+      «tail_len» = s .«tail_len»;
+      tail = s .tail;
+    }

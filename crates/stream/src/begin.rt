@@ -32,6 +32,7 @@ fn start(head: Head, stage: u8, v: Block) -> Stream
         d,
         chain: [0u8; 16],
         v,
+        kept: [0u8; 16],
         total: 0,
         written: 0,
         tail_len: 0,
@@ -41,34 +42,38 @@ fn start(head: Head, stage: u8, v: Block) -> Stream
 
 // Begins with the head that was made, or hands its refusal on with the ended state.
 pub(crate) fn begun(made: Made, stage: u8, v: Block) -> Step
-    ensures { λ r. ⌜ DidStep (beginBy (outcomeOf (made .answer) .number) (made .head) stage v) r [] ⌝ }
+    ensures { λ r. ⌜ DidStep (beginBy (outcomeOf (made .answer) 0 .number) (made .work) (made .head) stage v) r [] ⌝ }
 {
     let answer = made.answer;
     let head = made.head;
     if let Answer::Refused(_) = answer {
         return Step {
             answer,
+            work: 0,
             state: work::ended(),
         };
     }
     Step {
         answer: Answer::Ok(0),
+        work: made.work,
         state: start(head, stage, v),
     }
 }
 
 // Refuses a tag of another length than 16: with 5, or with the refusal that is due before it.
 pub(crate) fn untagged(before: Answer) -> Step
-    ensures { λ r. ⌜ DidStep (refusedStep (cond (eqb (outcomeOf before .number) 0) 5 (outcomeOf before .number)) ended []) r [] ⌝ }
+    ensures { λ r. ⌜ DidStep (refusedStep (cond (eqb (outcomeOf before 0 .number) 0) 5 (outcomeOf before 0 .number)) ended []) r [] ⌝ }
 {
     if let Answer::Refused(_) = before {
         return Step {
             answer: before,
+            work: 0,
             state: work::ended(),
         };
     }
     Step {
         answer: Answer::Refused(Refusal::SealedLength),
+        work: 0,
         state: work::ended(),
     }
 }

@@ -6,7 +6,7 @@ ghost use lib.Dec.{eqb, ltb};
 ghost use lib.ListN.{length, drop};
 ghost use Rattle.s2v.specs.S2v.{tailLength};
 ghost use Rattle.siv.specs.Answer.{outcomeOf, first, withoutLength};
-ghost use Rattle.stream.specs.State.{allZero, writtenLimit, fits};
+ghost use Rattle.stream.specs.State.{allZero, writtenLimit, streamPlace, keptFits, fits};
 ghost use Rattle.stream.specs.Steps.{addRows, turnRows, writeRows, feedRows, finishRows};
 use crate::Stream;
 use siv::Answer;
@@ -43,6 +43,30 @@ fn is_tail_len(n: usize, total: usize) -> bool
     n == s2v::tail_len(total)
 }
 
+// How many bytes of the key stream a state in a stage has used.
+fn stream_place(stage: u8, s: Stream) -> usize
+    ensures { λ r. ⌜ r ≡ streamPlace stage s ⌝ }
+{
+    if stage == 2 {
+        return s.written;
+    }
+    if stage == 3 {
+        return s.total;
+    }
+    0
+}
+
+// Whether the kept block is zero where these are whole blocks.
+fn kept_fits(stage: u8, s: Stream) -> bool
+    ensures { λ r. ⌜ r ≡ keptFits stage s ⌝ }
+{
+    if stream_place(stage, s) % 16 != 0 {
+        return true;
+    }
+    let kept = s.kept;
+    zero_from(&kept, 0)
+}
+
 // Whether a state is one for a call that wants a stage.
 fn fits(wanted: u8, s: Stream) -> bool
     ensures { λ r. ⌜ r ≡ fits wanted s ⌝ }
@@ -60,6 +84,9 @@ fn fits(wanted: u8, s: Stream) -> bool
         return false;
     }
     if !is_tail_len(s.tail_len, s.total) {
+        return false;
+    }
+    if !kept_fits(wanted, s) {
         return false;
     }
     let tail = s.tail;
@@ -83,7 +110,7 @@ pub(crate) fn is_tag(tag: &[u8]) -> bool
 
 // The refusals of add.
 pub(crate) fn judge_add(s: Stream, n: usize) -> Answer
-    ensures { λ r. ⌜ outcomeOf r ≡ withoutLength (first (addRows s n)) ⌝ }
+    ensures { λ r. ⌜ outcomeOf r 0 ≡ withoutLength (first (addRows s n)) ⌝ }
 {
     if !fits(1, s) {
         return Answer::Refused(Refusal::State);
@@ -96,7 +123,7 @@ pub(crate) fn judge_add(s: Stream, n: usize) -> Answer
 
 // The refusals of turn.
 pub(crate) fn judge_turn(s: Stream, output: usize) -> Answer
-    ensures { λ r. ⌜ outcomeOf r ≡ withoutLength (first (turnRows s output)) ⌝ }
+    ensures { λ r. ⌜ outcomeOf r 0 ≡ withoutLength (first (turnRows s output)) ⌝ }
 {
     if !fits(1, s) {
         return Answer::Refused(Refusal::State);
@@ -109,7 +136,7 @@ pub(crate) fn judge_turn(s: Stream, output: usize) -> Answer
 
 // The refusals of write.
 pub(crate) fn judge_write(s: Stream, n: usize, output: usize) -> Answer
-    ensures { λ r. ⌜ outcomeOf r ≡ withoutLength (first (writeRows s n output)) ⌝ }
+    ensures { λ r. ⌜ outcomeOf r 0 ≡ withoutLength (first (writeRows s n output)) ⌝ }
 {
     if !fits(2, s) {
         return Answer::Refused(Refusal::State);
@@ -138,7 +165,7 @@ pub(crate) fn closes(s: Stream) -> bool
 
 // The refusals of feed.
 pub(crate) fn judge_feed(s: Stream, n: usize, output: usize) -> Answer
-    ensures { λ r. ⌜ outcomeOf r ≡ withoutLength (first (feedRows s n output)) ⌝ }
+    ensures { λ r. ⌜ outcomeOf r 0 ≡ withoutLength (first (feedRows s n output)) ⌝ }
 {
     if !fits(3, s) {
         return Answer::Refused(Refusal::State);
@@ -154,7 +181,7 @@ pub(crate) fn judge_feed(s: Stream, n: usize, output: usize) -> Answer
 
 // The refusals of finish but for a forged string.
 pub(crate) fn judge_finish(s: Stream, output: usize) -> Answer
-    ensures { λ r. ⌜ outcomeOf r ≡ withoutLength (first (finishRows s output)) ⌝ }
+    ensures { λ r. ⌜ outcomeOf r 0 ≡ withoutLength (first (finishRows s output)) ⌝ }
 {
     if !fits(3, s) {
         return Answer::Refused(Refusal::State);

@@ -33,6 +33,8 @@ pub struct Stream {
     pub chain: Block,
     // V, the tag: zero in stage 1.
     pub v: Block,
+    // The block of the key stream that is begun and not used up, in stage 2 while written and in stage 3 while total is no multiple of 16; else zero.
+    pub kept: Block,
     // How many bytes were added or fed.
     pub total: usize,
     // How many bytes were written: zero in stages 1 and 3.
@@ -43,9 +45,10 @@ pub struct Stream {
     pub tail: Tail,
 }
 
-// What a call hands back.
+// What a call hands back; its work in blocks is 0 after a refusal other than Forged.
 pub struct Step {
     pub answer: Answer,
+    pub work: usize,
     pub state: Stream,
 }
 
@@ -97,13 +100,11 @@ impl Stream {
         if let Answer::Refused(_) = answer {
             return Step {
                 answer,
+                work: 0,
                 state: self,
             };
         }
-        Step {
-            answer: Answer::Ok(0),
-            state: tail::absorb(self, piece),
-        }
+        tail::absorb(self, piece)
     }
 
     // Ends the adding: V goes to the first 16 bytes of output.
@@ -114,15 +115,18 @@ impl Stream {
         if let Answer::Refused(_) = answer {
             return Step {
                 answer,
+                work: 0,
                 state: self,
             };
         }
-        let v = work::tag_of_state(self);
+        let tag = work::tag_of_state(self);
+        let v = tag.block;
         octets::store(output, 0, v);
         self.stage = 2;
         self.v = v;
         Step {
             answer: Answer::Ok(Self::TAG_LEN),
+            work: tag.work,
             state: self,
         }
     }
@@ -136,13 +140,16 @@ impl Stream {
         if let Answer::Refused(_) = answer {
             return Step {
                 answer,
+                work: 0,
                 state: self,
             };
         }
-        work::stream_at(self, self.written, piece, output, 0);
+        let end = work::stream_at(self, self.written, piece, output, 0);
+        self.kept = end.block;
         self.written = self.written + n;
         Step {
             answer: Answer::Ok(n),
+            work: end.work,
             state: self,
         }
     }
@@ -154,17 +161,19 @@ impl Stream {
         if judge::closes(self) {
             return Step {
                 answer: Answer::Ok(0),
+                work: 0,
                 state: work::ended(),
             };
         }
         Step {
             answer: Answer::Refused(Refusal::State),
+            work: 0,
             state: self,
         }
     }
 
     // Feeds a piece of ciphertext: its plaintext, which nobody has approved yet, goes to output at offset total.
-    pub fn feed(self, piece: &[u8], output: &mut [u8]) -> Step
+    pub fn feed(mut self, piece: &[u8], output: &mut [u8]) -> Step
         ensures { λ r. ⌜ DidStep (feedStep self (now (piece .entry)) (now (output .entry))) r (now (output .exit)) ⌝ }
     {
         let n = piece.len();
@@ -172,15 +181,17 @@ impl Stream {
         if let Answer::Refused(_) = answer {
             return Step {
                 answer,
+                work: 0,
                 state: self,
             };
         }
         let at = self.total;
-        work::stream_at(self, at, piece, output, at);
-        Step {
-            answer: Answer::Ok(n),
-            state: tail::absorb(self, &output[at..at + n]),
-        }
+        let end = work::stream_at(self, at, piece, output, at);
+        self.kept = end.block;
+        let mut step = tail::absorb(self, &output[at..at + n]);
+        step.answer = Answer::Ok(n);
+        step.work = end.work + step.work;
+        step
     }
 
     // Gives the verdict on all that was fed: the plaintext in output is approved, or it is wiped.
@@ -191,20 +202,25 @@ impl Stream {
         if let Answer::Refused(_) = answer {
             return Step {
                 answer,
+                work: 0,
                 state: self,
             };
         }
         let total = self.total;
         let v = self.v;
-        if octets::same_block(work::tag_of_state(self), v) {
+        let tag = work::tag_of_state(self);
+        let t = tag.block;
+        if octets::same_block(t, v) {
             return Step {
                 answer: Answer::Ok(total),
+                work: tag.work,
                 state: work::ended(),
             };
         }
         octets::zero_at(output, 0, total);
         Step {
             answer: Answer::Refused(Refusal::Forged),
+            work: tag.work,
             state: work::ended(),
         }
     }

@@ -1,20 +1,25 @@
 // The tail and the chain: what a piece makes of them, by blocks.
 ghost use mathlib.Core.Path.{_≡_};
-ghost use mathlib.Core.List.{_++_};
+ghost use mathlib.Core.List.{[], _++_};
 ghost use Prim.Native.Nat.{_+_, _*_, _≤_, _<_};
 ghost use lib.ListN.{length, drop};
 ghost use Rattle.octets.specs.Octets.{xors, put, part};
 ghost use Rattle.aes.specs.Cipher.{cipher};
 ghost use Rattle.aes.specs.Engine.{Ready};
-ghost use Rattle.cmac.specs.Cmac.{chain};
+ghost use Rattle.aes.specs.Work.{Reports};
+ghost use Rattle.cmac.specs.Cmac.{chain, chainWork};
 ghost use Rattle.s2v.specs.S2v.{tailLength};
 ghost use Rattle.siv.specs.Calls.{limit};
-ghost use Rattle.stream.specs.State.{tailOf, added};
+ghost use Rattle.stream.specs.State.{tailOf, added, addedWork};
+ghost use Rattle.stream.specs.Steps.{DidStep, doneStep};
+use crate::Step;
 use crate::Stream;
 use crate::Tail;
+use aes::Counted;
 use aes::Engine;
 use aes::RoundKeys;
 use octets::Block;
+use siv::Answer;
 
 // Copies n bytes from a place of two joined strings to the front of a slice.
 fn copy_joined(dst: &mut [u8], a: &[u8], b: &[u8], at: usize, n: usize)
@@ -57,9 +62,9 @@ fn absorb_joined(
     a: &[u8],
     b: &[u8],
     n: usize,
-) -> Block
+) -> Counted
     requires { ⌜ Ready (now engine) × (width ≤ 32) × (16 * n + 16 ≤ length (now a) + length (now b)) ⌝ }
-    ensures { λ r. ⌜ r ≡ cipher width (now (keys .entry)) (xors c (part (now (a .entry) ++ now (b .entry)) (16 * n) 16)) ⌝ }
+    ensures { λ r. ⌜ Reports (cipher width (now (keys .entry)) (xors c (part (now (a .entry) ++ now (b .entry)) (16 * n) 16))) 1 r ⌝ }
 {
     aes::encrypt(
         engine,
@@ -78,27 +83,29 @@ fn chain_joined(
     a: &[u8],
     b: &[u8],
     n: usize,
-) -> Block
+) -> Counted
     requires { ⌜ Ready (now engine) × (width ≤ 32) × (16 * n ≤ length (now a) + length (now b)) ⌝ }
-    ensures { λ r. ⌜ r ≡ chain (cipher width (now (keys .entry))) c (now (a .entry) ++ now (b .entry)) n ⌝ }
+    ensures { λ r. ⌜ Reports (chain (cipher width (now (keys .entry))) c (now (a .entry) ++ now (b .entry)) n) (chainWork n) r ⌝ }
 {
-    let mut x = c;
+    let mut block = c;
+    let mut work = 0;
     let mut i = 0;
     while i < n {
-        let next = absorb_joined(engine, width, keys, x, a, b, i);
-        x = next;
+        let next = absorb_joined(engine, width, keys, block, a, b, i);
+        block = next.block;
+        work = work + next.work;
         i += 1;
     }
-    x
+    Counted { block, work }
 }
 
 // The same, and where there is no block, no table is built.
-fn chain_text(width: usize, keys: &RoundKeys, c: Block, a: &[u8], b: &[u8], n: usize) -> Block
+fn chain_text(width: usize, keys: &RoundKeys, c: Block, a: &[u8], b: &[u8], n: usize) -> Counted
     requires { ⌜ (width ≤ 32) × (16 * n ≤ length (now a) + length (now b)) ⌝ }
-    ensures { λ r. ⌜ r ≡ chain (cipher width (now (keys .entry))) c (now (a .entry) ++ now (b .entry)) n ⌝ }
+    ensures { λ r. ⌜ Reports (chain (cipher width (now (keys .entry))) c (now (a .entry) ++ now (b .entry)) n) (chainWork n) r ⌝ }
 {
     if n == 0 {
-        return c;
+        return Counted { block: c, work: 0 };
     }
     let engine = aes::engine();
     chain_joined(&engine, width, keys, c, a, b, n)
@@ -114,10 +121,10 @@ fn tail_joined(a: &[u8], b: &[u8], at: usize, n: usize) -> Tail
     tail
 }
 
-// The state with a piece of plaintext more: of the tail and the piece, n blocks go into the chain, and what is left is the tail.
-pub(crate) fn absorb(s: Stream, piece: &[u8]) -> Stream
+// Adds a piece of plaintext: of the tail and the piece, n blocks go into the chain, and what is left is the tail.
+pub(crate) fn absorb(s: Stream, piece: &[u8]) -> Step
     requires { ⌜ (s .width ≤ 32) × (s .«tail_len» ≡ tailLength (s .total)) × (s .total + length (now piece) ≤ limit) ⌝ }
-    ensures { λ r. ⌜ r ≡ added s (now (piece .entry)) ⌝ }
+    ensures { λ r. ⌜ DidStep (doneStep 0 (addedWork s (length (now (piece .entry)))) (added s (now (piece .entry))) []) r [] ⌝ }
 {
     let mut next = s;
     let total = s.total + piece.len();
@@ -129,9 +136,13 @@ pub(crate) fn absorb(s: Stream, piece: &[u8]) -> Stream
     let c = s.chain;
     let chain = chain_text(s.width, &keys, c, &tail[0..used], piece, n);
     let rest = tail_joined(&tail[0..used], piece, 16 * n, left);
-    next.chain = chain;
+    next.chain = chain.block;
     next.total = total;
     next.tail_len = left;
     next.tail = rest;
-    next
+    Step {
+        answer: Answer::Ok(0),
+        work: chain.work,
+        state: next,
+    }
 }

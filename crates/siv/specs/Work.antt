@@ -1,0 +1,29 @@
+-- The work of whole sealing and opening from lengths alone: the sum in slip 5 of document 02.
+-- Assumes nothing.
+use mathlib.Core.Bool.{cond, _||_}
+use mathlib.Core.List.{List, [], _∷_}
+use Prim.Native.Nat.{ℕ, _+_, _/_, max}
+use lib.Dec.{ltb}
+use lib.ListN.{length}
+use Rattle.siv.specs.Calls.{limit}
+
+-- n divided by 16, rounded up
+abbrev pub sixteenths : ℕ → ℕ
+sixteenths n = (n + 15) / 16
+
+-- how many blocks a string of n bytes has; an empty string has one
+abbrev pub blocksOf : ℕ → ℕ
+blocksOf n = max (sixteenths n) 1
+
+-- the blocks of strings of these lengths
+unfoldable pub blocksOfAll : List ℕ → ℕ
+blocksOfAll [] = 0
+blocksOfAll (n ∷ lens) = blocksOf n + blocksOfAll lens
+
+-- 2, for L and the CMAC of the zero block; the blocks of each header string and of the plaintext; and the plaintext's length divided by 16, rounded up
+abbrev pub blockWork : List ℕ → ℕ → ℕ
+blockWork lens n = 2 + blocksOfAll lens + blocksOf n + sixteenths n
+
+-- what a whole call with such lengths reports: 0 where it has too many header strings, or too long a plaintext
+unfoldable pub plannedWork : List ℕ → ℕ → ℕ
+plannedWork lens n = cond (ltb 126 (length lens) || ltb limit n) 0 (blockWork lens n)
