@@ -1,15 +1,19 @@
--- Laws of the key stream, for any block function: lengths, undoing, prefixes, and pieces that join.
+-- Laws of the key stream, for any block function: work, lengths, undoing, prefixes, pieces that join, and the block that is kept between two.
 -- Assumes nothing.
 use mathlib.Core.Path.{_≡_, refl, sym, ap, ap₂, _∙_}
-use mathlib.Core.List.{List, _++_}
-use Prim.Native.Nat.{ℕ, zero, suc, _+_, _-_, _*_, _/_, _≤_}
-use native.Mathlib.Nat.{add-zero, add-suc}
+use mathlib.Core.Bool.{Bool, true, false, cond}
+use mathlib.Core.List.{List, [], _∷_, _++_, append-nil, append-assoc}
+use Prim.Native.Nat.{ℕ, zero, suc, _+_, _-_, _*_, _/_, _%_, _≤_}
+use native.Mathlib.Nat.{add-zero, add-suc, add-assoc}
+use native.Mathlib.Decide.{ℕ-discrete, decLe}
 use native.Mathlib.Omega.{arith}
-use lib.ListN.{length, take, drop, length-append, length-drop, take-append-drop}
-use lib.Seq.{take-all, take-take, take-append-le, drop-drop, drop-append-add, length-take-le}
+use lib.Dec.{eqb}
+use lib.ListN.{length, take, drop, replicate, length-append, length-drop, take-append-drop}
+use lib.Seq.{take-all, take-take, take-append-le, drop-drop, drop-at, drop-append-le, drop-append-add, length-take-le}
+use borrow.Author.Tests.{eq-eqb, ne-eqb}
 use Rattle.octets.specs.Octets.{xors}
 use Rattle.octets.proofs.Strings.{length-xors, xors-undo, xors-append, take-xors, drop-take}
-use Rattle.ctr.specs.Counter.{clear, plus, streamBlocks, keyStream, xorStream}
+use Rattle.ctr.specs.Counter.{clear, plus, blocksBegun, streamBlocks, streamWork, keyStream, keyStreamWork, xorStream, begunBlock, leftOver, newBlocks, atHand, pieceWork, xorPiece, keptAfter}
 
 -- ---- strings
 
@@ -20,44 +24,56 @@ xors-take s t =
     ∙ sym (take-xors (length s) s t)
     ∙ take-all (length s) (xors s t) (omega (arith, length-xors s t))
 
+-- ---- the work
+
+pub stream-work : (n : ℕ) → streamWork n ≡ n
+unfolding streamWork
+stream-work zero = refl
+stream-work (suc n) = omega (arith, stream-work n)
+
+pub key-stream-work : (n : ℕ) → keyStreamWork n ≡ blocksBegun n
+unfolding keyStreamWork
+key-stream-work n = stream-work (blocksBegun n)
+
 -- ---- the key stream
 
-module _ (E : List ℕ → List ℕ) (sized : (b : List ℕ) → length (E b) ≡ 16) (v : List ℕ) where
-  length-streamBlocks : (k : ℕ) → length (streamBlocks E v k) ≡ 16 * k
-  unfolding streamBlocks
-  length-streamBlocks zero = refl
-  length-streamBlocks (suc k) =
-      length-append (streamBlocks E v k) (E (plus (clear v) k))
-      ∙ omega (arith, length-streamBlocks k, sized (plus (clear v) k))
+-- n blocks and the m behind them
+streamBlocks-add : (E : List ℕ → List ℕ) (v : List ℕ) (i n m : ℕ) → streamBlocks E v i (n + m) ≡ streamBlocks E v i n ++ streamBlocks E v (i + n) m
+unfolding streamBlocks
+streamBlocks-add E v i n zero = ap (streamBlocks E v i) (add-zero n) ∙ sym (append-nil (streamBlocks E v i n))
+streamBlocks-add E v i n (suc m) =
+    ap (streamBlocks E v i) (add-suc n m)
+    ∙ ap₂ (λ (l : List ℕ) (k : ℕ). l ++ E (plus (clear v) k)) (streamBlocks-add E v i n m) (sym (add-assoc i n m))
+    ∙ append-assoc (streamBlocks E v i n) (streamBlocks E v (i + n) m) (E (plus (clear v) (i + n + m)))
 
-  -- more blocks have the same front
-  take-more : (n j d : ℕ) → n ≤ 16 * j → take n (streamBlocks E v (j + d)) ≡ take n (streamBlocks E v j)
+module _ (E : List ℕ → List ℕ) (sized : (b : List ℕ) → length (E b) ≡ 16) (v : List ℕ) where
+  length-streamBlocks : (i n : ℕ) → length (streamBlocks E v i n) ≡ 16 * n
   unfolding streamBlocks
-  take-more n j zero h = ap (λ (m : ℕ). take n (streamBlocks E v m)) (add-zero j)
-  take-more n j (suc d) h =
-      ap (λ (m : ℕ). take n (streamBlocks E v m)) (add-suc j d)
-      ∙ take-append-le n (streamBlocks E v (j + d)) (E (plus (clear v) (j + d))) (omega (arith, length-streamBlocks (j + d)))
-      ∙ take-more n j d h
+  length-streamBlocks i zero = refl
+  length-streamBlocks i (suc n) =
+      length-append (streamBlocks E v i n) (E (plus (clear v) (i + n)))
+      ∙ omega (arith, length-streamBlocks i n, sized (plus (clear v) (i + n)))
 
   -- the key stream by any number of blocks that is enough
-  keyStream-blocks : (n k : ℕ) → n ≤ 16 * k → take n (streamBlocks E v k) ≡ keyStream E v n
+  keyStream-blocks : (n k : ℕ) → n ≤ 16 * k → take n (streamBlocks E v 0 k) ≡ keyStream E v n
   unfolding keyStream
   keyStream-blocks n k h =
-      let few : (n + 15) / 16 ≤ k = omega arith in
-      let split : k ≡ (n + 15) / 16 + (k - (n + 15) / 16) = omega arith in
-      ap (λ (m : ℕ). take n (streamBlocks E v m)) split
-      ∙ take-more n ((n + 15) / 16) (k - (n + 15) / 16) (omega arith)
+      let j : ℕ = blocksBegun n in
+      let split : k ≡ j + (k - j) = omega arith in
+      ap (λ (m : ℕ). take n (streamBlocks E v 0 m)) split
+      ∙ ap (take n) (streamBlocks-add E v 0 j (k - j))
+      ∙ take-append-le n (streamBlocks E v 0 j) (streamBlocks E v (0 + j) (k - j)) (omega (arith, length-streamBlocks 0 j))
 
   pub length-keyStream : (n : ℕ) → length (keyStream E v n) ≡ n
   unfolding keyStream
-  length-keyStream n = length-take-le n (streamBlocks E v ((n + 15) / 16)) (omega (arith, length-streamBlocks ((n + 15) / 16)))
+  length-keyStream n = length-take-le n (streamBlocks E v 0 (blocksBegun n)) (omega (arith, length-streamBlocks 0 (blocksBegun n)))
 
   -- a shorter key stream is the front of a longer one
   pub take-keyStream : (n m : ℕ) → n ≤ m → take n (keyStream E v m) ≡ keyStream E v n
   unfolding keyStream
   take-keyStream n m h =
-      take-take n m (streamBlocks E v ((m + 15) / 16)) h
-      ∙ keyStream-blocks n ((m + 15) / 16) (omega arith)
+      take-take n m (streamBlocks E v 0 (blocksBegun m)) h
+      ∙ keyStream-blocks n (blocksBegun m) (omega arith)
 
   -- ---- pieces
 
@@ -78,20 +94,26 @@ module _ (E : List ℕ → List ℕ) (sized : (b : List ℕ) → length (E b) �
       ∙ xors-append a b (take (length a) (drop p K)) (drop (length a) (drop p K)) count
       ∙ ap₂ (λ (x y : List ℕ). xors a x ++ xors b y) front (drop-drop (length a) p K)
 
-  -- a piece within block i, from its byte k on
-  pub xorStream-block : (i k : ℕ) (s : List ℕ) → k + length s ≤ 16 → xorStream E v (16 * i + k) s ≡ xors s (drop k (E (plus (clear v) i)))
-  unfolding xorStream streamBlocks
-  xorStream-block i k s h =
+  -- a piece from byte k of block i on, by n blocks that are enough
+  xorStream-blocks : (i k n : ℕ) (s : List ℕ) → k + length s ≤ 16 * n → xorStream E v (16 * i + k) s ≡ xors s (drop k (streamBlocks E v i n))
+  unfolding xorStream
+  xorStream-blocks i k n s h =
       let p : ℕ = 16 * i + k in
-      let B : List ℕ = E (plus (clear v) i) in
-      let X : List ℕ = streamBlocks E v i ++ B in
-      let size : length (streamBlocks E v i) ≡ 16 * i = length-streamBlocks i in
-      let long : length X ≡ 16 * i + 16 = length-append (streamBlocks E v i) B ∙ omega (arith, sized (plus (clear v) i)) in
-      ap (λ (t : List ℕ). xors s (drop p t)) (sym (keyStream-blocks (p + length s) (suc i) (omega arith)))
+      let X : List ℕ = streamBlocks E v 0 (i + n) in
+      let from : 0 + i ≡ i = omega arith in
+      let size : 16 * i ≡ length (streamBlocks E v 0 i) = sym (length-streamBlocks 0 i) in
+      ap (λ (t : List ℕ). xors s (drop p t)) (sym (keyStream-blocks (p + length s) (i + n) (omega arith)))
       ∙ ap (xors s) (drop-take p (length s) X)
       ∙ xors-take s (drop p X)
-      ∙ ap (λ (n : ℕ). xors s (drop (n + k) X)) (sym size)
-      ∙ ap (xors s) (drop-append-add (streamBlocks E v i) B k)
+      ∙ ap₂ (λ (m : ℕ) (l : List ℕ). xors s (drop (m + k) l)) size (streamBlocks-add E v 0 i n)
+      ∙ ap (xors s) (drop-append-add (streamBlocks E v 0 i) (streamBlocks E v (0 + i) n) k)
+      ∙ ap (λ (m : ℕ). xors s (drop k (streamBlocks E v m n))) from
+
+  -- a piece within block i, from its byte k on
+  pub xorStream-block : (i k : ℕ) (s : List ℕ) → k + length s ≤ 16 → xorStream E v (16 * i + k) s ≡ xors s (drop k (E (plus (clear v) i)))
+  unfolding streamBlocks
+  xorStream-block i k s h =
+      xorStream-blocks i k 1 s (omega arith) ∙ ap (λ (j : ℕ). xors s (drop k (E (plus (clear v) j)))) (add-zero i)
 
 pub length-xorStream : (E : List ℕ → List ℕ) (v : List ℕ) (p : ℕ) (s : List ℕ) → length (xorStream E v p s) ≡ length s
 unfolding xorStream
@@ -103,3 +125,157 @@ unfolding xorStream
 xorStream-undo E v p s =
     let K : List ℕ = drop p (keyStream E v (p + length s)) in
     ap (λ (n : ℕ). xors (xors s K) (drop p (keyStream E v (p + n)))) (length-xors s K) ∙ xors-undo s K
+
+-- ---- the block that is kept between two pieces
+
+-- a piece that the kept block has a byte for each of begins no other
+newBlocks-none : (place n : ℕ) → n ≤ leftOver place → newBlocks place n ≡ 0
+newBlocks-none place n h = omega arith
+
+-- it is xored from its place in the block on
+from-place : (kept : List ℕ) (place : ℕ) (s : List ℕ) → length s ≤ leftOver place → xors s (drop (16 - leftOver place) kept) ≡ xors s (drop (place % 16) kept)
+unfolding xors
+from-place kept place [] h = refl
+from-place kept place (x ∷ s) h =
+    let start : 16 - leftOver place ≡ place % 16 = omega arith in
+    ap (λ (k : ℕ). xors (x ∷ s) (drop k kept)) start
+
+pub pieceWork-within : (place n : ℕ) → n ≤ leftOver place → pieceWork place n ≡ 0
+unfolding pieceWork streamWork
+pieceWork-within place n h = ap streamWork (newBlocks-none place n h)
+
+-- behind the kept block a piece begins what as many bytes from a block's first on begin
+pub pieceWork-beyond : (place n : ℕ) → leftOver place ≤ n → pieceWork place n ≡ keyStreamWork (n - leftOver place)
+unfolding pieceWork keyStreamWork
+pieceWork-beyond place n h =
+    let count : newBlocks place n ≡ blocksBegun (n - leftOver place) = omega arith in
+    ap streamWork count
+
+module _ (E : List ℕ → List ℕ) (v : List ℕ) where
+  -- within a block that one is begun
+  begunBlock-one : (n : ℕ) → (n % 16 ≡ 0 → ⊥) → begunBlock E v n ≡ E (plus (clear v) (n / 16))
+  unfolding begunBlock
+  begunBlock-one n e = simp (ne-eqb (n % 16) 0 e)
+
+  -- n bytes from block i on: whole blocks
+  pub begunBlock-whole : (i n : ℕ) → n % 16 ≡ 0 → replicate 16 0 ≡ begunBlock E v (16 * i + n)
+  unfolding begunBlock
+  begunBlock-whole i n e =
+      let end : (16 * i + n) % 16 ≡ 0 = omega arith in
+      simp (eq-eqb ((16 * i + n) % 16) 0 end)
+
+  -- n bytes from block i on: whole blocks and a short end, which begins block b
+  pub begunBlock-short : (i n : ℕ) {b : List ℕ} → (n % 16 ≡ 0 → ⊥) → b ≡ E (plus (clear v) (i + n / 16)) → b ≡ begunBlock E v (16 * i + n)
+  begunBlock-short i n some e =
+      let place : i + n / 16 ≡ (16 * i + n) / 16 = omega arith in
+      e ∙ ap (λ (k : ℕ). E (plus (clear v) k)) place ∙ sym (begunBlock-one (16 * i + n) (λ z. some (omega arith)))
+
+  -- the block b, kept within a block only, is the begun one where it is that one there
+  begunBlock-as : (n : ℕ) (b : List ℕ) → ((n % 16 ≡ 0 → ⊥) → b ≡ E (plus (clear v) (n / 16))) → cond (eqb (n % 16) 0) (replicate 16 0) b ≡ begunBlock E v n
+  unfolding begunBlock
+  begunBlock-as n b e = go (ℕ-discrete (n % 16) 0)
+    where
+      go : Dec (n % 16 ≡ 0) → cond (eqb (n % 16) 0) (replicate 16 0) b ≡ begunBlock E v n
+      go (yes z) = simp (eq-eqb (n % 16) 0 z)
+      go (no z) = simp (ne-eqb (n % 16) 0 z) (e z)
+
+  pub length-xorPiece : (kept : List ℕ) (place : ℕ) (s : List ℕ) → length (xorPiece E v kept place s) ≡ length s
+  unfolding xorPiece
+  length-xorPiece kept place s = length-xors s (drop (16 - leftOver place) (atHand E v kept place (length s)))
+
+  -- nothing but the kept block is at hand
+  atHand-within : (kept : List ℕ) (place n : ℕ) → n ≤ leftOver place → atHand E v kept place n ≡ kept
+  unfolding atHand streamBlocks
+  atHand-within kept place n h = ap (λ (m : ℕ). kept ++ streamBlocks E v (blocksBegun place) m) (newBlocks-none place n h) ∙ append-nil kept
+
+  pub xorPiece-within : (kept : List ℕ) (place : ℕ) (s : List ℕ) → length s ≤ leftOver place → xorPiece E v kept place s ≡ xors s (drop (place % 16) kept)
+  unfolding xorPiece
+  xorPiece-within kept place s h =
+      ap (λ (l : List ℕ). xors s (drop (16 - leftOver place) l)) (atHand-within kept place (length s) h)
+      ∙ from-place kept place s h
+
+  pub keptAfter-within : (kept : List ℕ) (place n : ℕ) → n ≤ leftOver place
+      → keptAfter E v kept place n ≡ cond (eqb ((place + n) % 16) 0) (replicate 16 0) kept
+  unfolding keptAfter
+  keptAfter-within kept place n h =
+      ap₂ (λ (m : ℕ) (l : List ℕ). cond (eqb ((place + n) % 16) 0) (replicate 16 0) (drop (16 * m) l)) (newBlocks-none place n h) (atHand-within kept place n h)
+
+module _ (E : List ℕ → List ℕ) (sized : (b : List ℕ) → length (E b) ≡ 16) (v : List ℕ) where
+  pub length-begunBlock : (n : ℕ) → length (begunBlock E v n) ≡ 16
+  unfolding begunBlock
+  length-begunBlock n = go (eqb (n % 16) 0)
+    where
+      go : (b : Bool) → length (cond b (replicate 16 0) (E (plus (clear v) (n / 16)))) ≡ 16
+      go true = refl
+      go false = sized (plus (clear v) (n / 16))
+
+  -- what is left of the kept block is xored in first, then the key stream from the next block on
+  pub xorPiece-beyond : (kept : List ℕ) (place : ℕ) (s : List ℕ) → length kept ≡ 16 → leftOver place ≤ length s
+      → xorPiece E v kept place s ≡ xors (take (leftOver place) s) (drop (place % 16) kept) ++ xorStream E v (place + leftOver place) (drop (leftOver place) s)
+  unfolding xorPiece atHand
+  xorPiece-beyond kept place s long h =
+      let m : ℕ = leftOver place in
+      let i : ℕ = blocksBegun place in
+      let n : ℕ = newBlocks place (length s) in
+      let front : length (take m s) ≡ m = length-take-le m s h in
+      let left : length (drop (16 - m) kept) ≡ m = simp length-drop (omega arith) in
+      let next : 16 * i + 0 ≡ place + m = omega arith in
+      let rest : xors (drop m s) (streamBlocks E v i n) ≡ xorStream E v (place + m) (drop m s) =
+      sym (xorStream-blocks E sized v i 0 n (drop m s) (simp length-drop (omega arith))) ∙ ap (λ (p : ℕ). xorStream E v p (drop m s)) next in
+      ap₂ xors (sym (take-append-drop m s)) (drop-append-le (16 - m) kept (streamBlocks E v i n) (omega arith))
+      ∙ xors-append (take m s) (drop m s) (drop (16 - m) kept) (streamBlocks E v i n) (front ∙ sym left)
+      ∙ ap₂ _++_ (from-place kept place (take m s) (omega arith)) rest
+
+  -- then the block is kept that the end begins
+  pub keptAfter-beyond : (kept : List ℕ) (place n : ℕ) → length kept ≡ 16 → leftOver place ≤ n → keptAfter E v kept place n ≡ begunBlock E v (place + n)
+  unfolding keptAfter atHand streamBlocks
+  keptAfter-beyond kept place n long h =
+      let i : ℕ = blocksBegun place in
+      let m : ℕ = newBlocks place n - 1 in
+      let B : List ℕ = E (plus (clear v) (i + m)) in
+      begunBlock-as E v (place + n) (drop (16 * newBlocks place n) (kept ++ streamBlocks E v i (newBlocks place n)))
+      (λ (e : (place + n) % 16 ≡ 0 → ⊥).
+      let more : newBlocks place n ≡ suc m = omega (arith, e) in
+      let last : i + m ≡ (place + n) / 16 = omega (arith, e) in
+      ap (λ (k : ℕ). drop (16 * k) (kept ++ streamBlocks E v i k)) more
+      ∙ ap (drop (16 * suc m)) (sym (append-assoc kept (streamBlocks E v i m) B))
+      ∙ drop-at (kept ++ streamBlocks E v i m) B (16 * suc m) (length-append kept (streamBlocks E v i m) ∙ omega (arith, length-streamBlocks E sized v i m))
+      ∙ ap (λ (k : ℕ). E (plus (clear v) k)) last)
+
+  -- a piece within the block that its place begins
+  begunBlock-own : (place : ℕ) (s : List ℕ) → length s ≤ leftOver place → xors s (drop (place % 16) (begunBlock E v place)) ≡ xorStream E v place s
+  unfolding xors xorStream
+  begunBlock-own place [] h = refl
+  begunBlock-own place (x ∷ s) h =
+      let i : ℕ = place / 16 in
+      let k : ℕ = place % 16 in
+      let whole : 16 * i + k ≡ place = omega arith in
+      ap (λ (l : List ℕ). xors (x ∷ s) (drop k l)) (begunBlock-one E v place (λ e. omega (arith, e)))
+      ∙ sym (xorStream-block E sized v i k (x ∷ s) (omega arith))
+      ∙ ap (λ (p : ℕ). xorStream E v p (x ∷ s)) whole
+
+  -- with the block kept that its place begins, a piece is xored with the key stream from there on
+  pub xorPiece-own : (place : ℕ) (s : List ℕ) → xorPiece E v (begunBlock E v place) place s ≡ xorStream E v place s
+  xorPiece-own place s = go (decLe (leftOver place) (length s))
+    where
+      go : Dec (leftOver place ≤ length s) → xorPiece E v (begunBlock E v place) place s ≡ xorStream E v place s
+      go (yes h) =
+          let m : ℕ = leftOver place in
+          let front : length (take m s) ≡ m = length-take-le m s h in
+          xorPiece-beyond (begunBlock E v place) place s (length-begunBlock place) h
+          ∙ ap₂ (λ (l : List ℕ) (n : ℕ). l ++ xorStream E v (place + n) (drop m s)) (begunBlock-own place (take m s) (omega arith)) (sym front)
+          ∙ sym (xorStream-append E sized v place (take m s) (drop m s))
+          ∙ ap (xorStream E v place) (take-append-drop m s)
+      go (no h) = xorPiece-within E v (begunBlock E v place) place s (omega (arith, h)) ∙ begunBlock-own place s (omega (arith, h))
+
+  -- and the block is kept that the end begins
+  pub keptAfter-own : (place n : ℕ) → keptAfter E v (begunBlock E v place) place n ≡ begunBlock E v (place + n)
+  keptAfter-own place n = go (decLe (leftOver place) n)
+    where
+      go : Dec (leftOver place ≤ n) → keptAfter E v (begunBlock E v place) place n ≡ begunBlock E v (place + n)
+      go (yes h) = keptAfter-beyond (begunBlock E v place) place n (length-begunBlock place) h
+      go (no h) =
+          let same : place / 16 ≡ (place + n) / 16 = omega (arith, h) in
+          keptAfter-within E v (begunBlock E v place) place n (omega (arith, h))
+          ∙ begunBlock-as E v (place + n) (begunBlock E v place)
+          (λ e. begunBlock-one E v place (λ z. omega (arith, h, z)) ∙ ap (λ (k : ℕ). E (plus (clear v) k)) same)

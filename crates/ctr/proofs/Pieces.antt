@@ -37,18 +37,17 @@ unfolding xorStream xors
 xorStream-none E v l at p [] e = sym (put-nil l at)
 xorStream-none E v l at p (x ∷ s) e = absurd (omega arith)
 
--- a place said in another way
-pub xorStream-at : (E : List ℕ → List ℕ) (v l : List ℕ) (at : ℕ) (s : List ℕ) {p place : ℕ} {next : List ℕ} → p ≡ place → next ≡ put l at (xorStream E v p s)
-    → next ≡ put l at (xorStream E v place s)
-xorStream-at E v l at s e h = h ∙ ap (λ (n : ℕ). put l at (xorStream E v n s)) e
+-- the first m bytes of `s` are all of it
+pub xorStream-all : (E : List ℕ → List ℕ) (v l : List ℕ) (at p : ℕ) (s : List ℕ) (m : ℕ) {next : List ℕ} → length s ≤ m → next ≡ put l at (xorStream E v p (take m s))
+    → next ≡ put l at (xorStream E v p s)
+xorStream-all E v l at p s m h e = e ∙ ap (λ (t : List ℕ). put l at (xorStream E v p t)) (take-all m s h)
 
 module _ (E : List ℕ → List ℕ) (sized : (b : List ℕ) → length (E b) ≡ 16) (v : List ℕ) where
-  -- a piece within block i, xored with `&block[k..]`
-  pub xorStream-piece : (i k : ℕ) (s : List ℕ) {block : List ℕ} → k + length s ≤ 16 → block ≡ E (plus (clear v) i)
-      → xors s (take (16 - k) (drop k block)) ≡ xorStream E v (16 * i + k) s
-  xorStream-piece i k s {block} h e =
-      let size : length block ≡ 16 = ap length e ∙ sized (plus (clear v) i) in
-      ap (xors s) (take-all (16 - k) (drop k block) (omega (arith, length-drop k block)) ∙ ap (drop k) e) ∙ sym (xorStream-block E sized v i k s h)
+  -- a piece of at most a block, xored with block i
+  pub xorStream-piece : (l : List ℕ) (at i : ℕ) (s : List ℕ) {block next : List ℕ} → length s ≤ 16 → block ≡ E (plus (clear v) i) → next ≡ put l at (xors s block)
+      → next ≡ put l at (xorStream E v (16 * i) s)
+  xorStream-piece l at i s h b e =
+      e ∙ ap (put l at) (ap (xors s) b ∙ sym (xorStream-block E sized v i 0 s (omega arith)) ∙ ap (λ (p : ℕ). xorStream E v p s) (add-zero (16 * i)))
 
   -- a piece of n bytes, and what is written behind it
   xorStream-next : (l : List ℕ) (at p : ℕ) (a b : List ℕ) {n q : ℕ} → length a ≡ n → q ≡ p + n → at + n ≤ length l
@@ -84,14 +83,14 @@ module _ (E : List ℕ → List ℕ) (sized : (b : List ℕ) → length (E b) �
   reached-none = record { long = refl; bytes = xorStream-none E v l at (16 * i) (take (16 * 0) s) refl }
 
   pub reached-more : {now next : List ℕ} (j : ℕ) → 16 * j + 16 ≤ length s → at + (16 * j + 16) ≤ length l → Reached E v i s l at now j → length next ≡ length now
-      → next ≡ put now (at + 16 * j) (xorStream E v (16 * (i + j) + 0) (take (16 * j + 16 - 16 * j) (drop (16 * j) s))) → Reached E v i s l at next (j + 1)
+      → next ≡ put now (at + 16 * j) (xorStream E v (16 * (i + j)) (take (16 * j + 16 - 16 * j) (drop (16 * j) s))) → Reached E v i s l at next (j + 1)
   reached-more {now} {next} j hs hl r same e =
       let block : List ℕ = take (16 * j + 16 - 16 * j) (drop (16 * j) s) in
       record {
         long = same ∙ r .long;
         bytes =
             e
-            ∙ ap (λ (d : List ℕ). put d (at + 16 * j) (xorStream E v (16 * (i + j) + 0) block)) (r .bytes)
+            ∙ ap (λ (d : List ℕ). put d (at + 16 * j) (xorStream E v (16 * (i + j)) block)) (r .bytes)
             ∙ xorStream-next E sized v l at (16 * i) (take (16 * j) s) block (length-take-le (16 * j) s (omega arith)) (omega arith) (omega arith)
             ∙ ap (λ (t : List ℕ). put l at (xorStream E v (16 * i) t)) (front-block j s);
       }

@@ -15,7 +15,7 @@ use Rattle.cmac.specs.Cmac.{zeros, double, pad, blocksBefore, chain, cmacFrom, 
 use Rattle.cmac.proofs.Laws.{length-double, cmac-work, chain-front, cmac-split}
 use Rattle.header.specs.Header.{total, strings}
 use Rattle.header.proofs.Laws.{total-take, strings-more}
-use Rattle.s2v.specs.S2v.{xorend, lastString, tailLength, absorbStrings, absorbWork, tagFrom, tagFromWork, tag}
+use Rattle.s2v.specs.S2v.{xorend, lastString, tailLength, absorbStrings, absorbWork, headerResult, tagFrom, tagFromWork, tag}
 
 -- ---- the tail
 
@@ -135,6 +135,15 @@ pub absorb-append : (E : List ℕ → List ℕ) (k : Subkeys) (d : List ℕ) (a 
 unfolding absorbStrings
 absorb-append E k d [] b = refl
 absorb-append E k d (s ∷ a) b = absorb-append E k _ a b
+
+pub length-absorbStrings : (E : List ℕ → List ℕ) (k : Subkeys) (d : List ℕ) (ss : List (List ℕ)) → length (absorbStrings E k d ss) ≡ length d
+unfolding absorbStrings
+length-absorbStrings E k d [] = refl
+length-absorbStrings E k d (s ∷ ss) = length-absorbStrings E k _ ss ∙ length-xors (double d) (cmac E k s) ∙ length-double d
+
+pub length-headerResult : (E : List ℕ → List ℕ) → ((b : List ℕ) → length (E b) ≡ 16) → (k : Subkeys) (ss : List (List ℕ)) → length (headerResult E k ss) ≡ 16
+unfolding headerResult cmacFrom
+length-headerResult E sized k ss = length-absorbStrings E k (cmac E k zeros) ss ∙ sized _
 
 pub absorb-work-append : (w : ℕ) (a b : List (List ℕ)) → absorbWork w (a ++ b) ≡ absorbWork (absorbWork w a) b
 unfolding absorbWork

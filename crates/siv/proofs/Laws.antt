@@ -22,11 +22,12 @@ use Rattle.header.specs.Header.{total, strings}
 use Rattle.ctr.proofs.Laws.{length-xorStream}
 use Rattle.siv.specs.declared.Answer.{Answer}
 use Rattle.siv.specs.declared.Answer.the-variants.{Ok, Refused}
+use Rattle.siv.specs.declared.Report.{Report}
 use Rattle.siv.specs.declared.Refusal.{Refusal}
 use Rattle.siv.specs.declared.Refusal.the-variants.{KeyLength, HeaderCount, HeaderLengths, TooLong, SealedLength, OutputShort, ScratchShort, Forged, State, EmptyNonce, RingLength}
-use Rattle.siv.specs.Answer.{Outcome, Row, row, first, numberOf, outcomeOf, success, withoutLength}
+use Rattle.siv.specs.Answer.{Outcome, Row, row, first, numberOf, outcomeOf, success, withoutLength, forged}
 use Rattle.siv.specs.Calls.{isKeyLength, limit, scratchNeed, headerRows, sealRows, openRows, Usable, DidCall, sealNumber, sealCall, openNumber, openCall}
-use Rattle.siv.specs.Siv.{tagOf, streamed, sealed, opened, genuine}
+use Rattle.siv.specs.Siv.{tagOf, tagOfWork, streamed, streamedWork, sealed, sealedWork, opened, genuine, genuineWork}
 use Rattle.siv.proofs.Answer.{the-type}
 
 -- ---- keys
@@ -130,31 +131,39 @@ refusal-number EmptyNonce e = omega arith
 refusal-number RingLength e = omega arith
 
 -- what a match tells of an answer: 0 and 1 are the places of its cases
-pub told-refused : (a : Answer) → OneOf (1 ∷ []) (declared.tagOf the-type a) → outcomeOf a .number ≡ 0 → ⊥
+pub told-refused : (a : Answer) → OneOf (1 ∷ []) (declared.tagOf the-type a) → outcomeOf a 0 .number ≡ 0 → ⊥
 told-refused (Ok n) k e = let z : _≡_ {A = ℕ} 0 1 = k in omega arith
 told-refused (Refused r) k e = refusal-number r e
 
-pub told-ok : (a : Answer) → OneOf (0 ∷ []) (declared.tagOf the-type a) → outcomeOf a .number ≡ 0
+pub told-ok : (a : Answer) → OneOf (0 ∷ []) (declared.tagOf the-type a) → outcomeOf a 0 .number ≡ 0
 told-ok (Ok n) k = refl
 told-ok (Refused r) k = let z : _≡_ {A = ℕ} 1 0 = k in absurd (omega arith)
 
 -- a refusal has length 0
-pub told-length : (a : Answer) → OneOf (1 ∷ []) (declared.tagOf the-type a) → outcomeOf a ≡ withoutLength (outcomeOf a .number)
+pub told-length : (a : Answer) → OneOf (1 ∷ []) (declared.tagOf the-type a) → outcomeOf a 0 ≡ withoutLength (outcomeOf a 0 .number)
 told-length (Ok n) k = let z : _≡_ {A = ℕ} 0 1 = k in absurd (omega arith)
 told-length (Refused r) k = refl
 
 -- past a judgement none was due
-pub passed : (a : Answer) (n : ℕ) → OneOf (0 ∷ []) (declared.tagOf the-type a) → outcomeOf a ≡ withoutLength n → n ≡ 0
+pub passed : (a : Answer) (n : ℕ) → OneOf (0 ∷ []) (declared.tagOf the-type a) → outcomeOf a 0 ≡ withoutLength n → n ≡ 0
 passed a n k e = sym (ap (λ (o : Outcome). o .number) e) ∙ told-ok a k
 
 -- a refusal stays due whatever rows come behind
-pub still-due : (a : Answer) (rows rest : List Row) → OneOf (1 ∷ []) (declared.tagOf the-type a) → outcomeOf a ≡ withoutLength (first rows) → outcomeOf a ≡ withoutLength (first (rows ++ rest))
+pub still-due : (a : Answer) (rows rest : List Row) → OneOf (1 ∷ []) (declared.tagOf the-type a) → outcomeOf a 0 ≡ withoutLength (first rows) → outcomeOf a 0 ≡ withoutLength (first (rows ++ rest))
 still-due a rows rest k e = e ∙ ap withoutLength (sym (first-stop rows rest (λ z. told-refused a k (ap (λ (o : Outcome). o .number) e ∙ z))))
 
 -- past a judgement the rows behind decide
-pub next-due : (a : Answer) (rows rest : List Row) → lacks 0 rows ≡ true → OneOf (0 ∷ []) (declared.tagOf the-type a) → outcomeOf a ≡ withoutLength (first rows)
+pub next-due : (a : Answer) (rows rest : List Row) → lacks 0 rows ≡ true → OneOf (0 ∷ []) (declared.tagOf the-type a) → outcomeOf a 0 ≡ withoutLength (first rows)
     → withoutLength (first rest) ≡ withoutLength (first (rows ++ rest))
 next-due a rows rest l k e = ap withoutLength (sym (first-pass rows rest l (passed a (first rows) k e)))
+
+-- with another work number and length are the same
+pub outcome-with : (a : Answer) (w w′ : ℕ) {o : Outcome} {v : ℕ} → outcomeOf a w ≡ o → w′ ≡ v → outcomeOf a w′ ≡ record { number = o .number; count = o .count; work = v }
+outcome-with a w w′ e v = go a ∙ ap₂ (λ (o : Outcome) (k : ℕ). record { number = o .number; count = o .count; work = k }) e v
+  where
+    go : (a : Answer) → outcomeOf a w′ ≡ record { number = outcomeOf a w .number; count = outcomeOf a w .count; work = w′ }
+    go (Ok n) = refl
+    go (Refused r) = refl
 
 -- ---- keys under the cipher
 
@@ -170,22 +179,24 @@ not-due true n rest e = absurd (omega arith)
 not-due false n rest e = (refl, e)
 
 -- what the refusals of key and header list leave
-pub header-admits : (keyLength : ℕ) (lens : List ℕ) (headerLength : ℕ) → first (headerRows keyLength lens headerLength) ≡ 0 → (isKeyLength keyLength ≡ true) × (total lens ≡ headerLength)
+pub header-admits : (keyLength : ℕ) (lens : List ℕ) (headerLength : ℕ) → first (headerRows keyLength lens headerLength) ≡ 0
+    → (isKeyLength keyLength ≡ true) × (total lens ≡ headerLength) × (length lens ≤ 126)
 header-admits keyLength lens headerLength e =
     let a = not-due (not (isKeyLength keyLength)) 0 _ e in
     let b = not-due (ltb 126 (length lens)) 1 _ (a .1) in
     let d = not-due (not (eqb (total lens) headerLength)) 2 0 (b .1) in
-    (not-false (isKeyLength keyLength) (a .0), eqb-true (total lens) headerLength (not-false (eqb (total lens) headerLength) (d .0)))
+    (not-false (isKeyLength keyLength) (a .0), eqb-true (total lens) headerLength (not-false (eqb (total lens) headerLength) (d .0)), ltb-false 126 (length lens) (b .0))
 
 pub header-usable : (key bytes lens : List ℕ) → first (headerRows (length key) lens (length bytes)) ≡ 0 → Usable key bytes lens
 header-usable key bytes lens e =
     let a = header-admits (length key) lens (length bytes) e in
-    (a .0, omega (arith, a .1))
+    (a .0, omega (arith, a .1), a .2)
 
 -- what sealing's refusals leave
 pub record SealAdmits (key bytes lens input output scratch : List ℕ) : Type 0 where
   pub keyed : isKeyLength (length key) ≡ true
   pub listed : total lens ≡ length bytes
+  pub few : length lens ≤ 126
   pub limited : length input ≤ 1048576
   pub roomy : length input + 16 ≤ length output
   pub scratchy : scratchNeed (length input) ≤ length scratch
@@ -202,6 +213,7 @@ module _ (key bytes lens input output scratch : List ℕ) where
       record {
         keyed = a .0;
         listed = a .1;
+        few = a .2;
         limited = ltb-false limit (length input) (f .0);
         roomy = ltb-false (length output) (length input + 16) (g .0);
         scratchy = ltb-false (length scratch) (scratchNeed (length input)) (h .0);
@@ -216,19 +228,19 @@ module _ (key bytes lens input output scratch : List ℕ) where
       go true e = omega (arith, seal-admits (eqb-true _ 0 e) .limited)
       go false e = omega arith
 
-  pub seal-refused : (answer : Answer) → (outcomeOf answer .number ≡ 0 → ⊥) → outcomeOf answer ≡ withoutLength (sealNumber key bytes lens input output scratch)
-      → DidCall (sealCall key bytes lens input output scratch) answer output scratch
+  pub seal-refused : (answer : Answer) → (outcomeOf answer 0 .number ≡ 0 → ⊥) → outcomeOf answer 0 ≡ withoutLength (sealNumber key bytes lens input output scratch)
+      → DidCall (sealCall key bytes lens input output scratch) (record { answer = answer; work = 0 }) output scratch
   unfolding sealCall
   seal-refused answer k e =
       let number = sealNumber key bytes lens input output scratch in
       let off : eqb number 0 ≡ false = ne-eqb number 0 (λ z. k (ap (λ (o : Outcome). o .number) e ∙ z)) in
       record { outcome = simp off e; output = simp off; scratch = simp off }
 
-  pub seal-done : (output′ scratch′ : List ℕ) → sealNumber key bytes lens input output scratch ≡ 0
+  pub seal-done : (w : ℕ) (output′ scratch′ : List ℕ) → sealNumber key bytes lens input output scratch ≡ 0 → w ≡ sealedWork key (strings bytes lens) input
       → output′ ≡ put output 0 (sealed key (strings bytes lens) input) → scratch′ ≡ put scratch 0 (replicate (scratchNeed (length input)) 0)
-      → DidCall (sealCall key bytes lens input output scratch) (Ok (length input + 16)) output′ scratch′
+      → DidCall (sealCall key bytes lens input output scratch) (record { answer = Ok (length input + 16); work = w }) output′ scratch′
   unfolding sealCall
-  seal-done output′ scratch′ e p q = record { outcome = simp e; output = simp e p; scratch = simp e q }
+  seal-done w output′ scratch′ e n p q = record { outcome = simp e (ap (success (length input + 16)) n); output = simp e p; scratch = simp e q }
 
 -- ---- whole opening
 
@@ -236,6 +248,7 @@ module _ (key bytes lens input output scratch : List ℕ) where
 pub record OpenAdmits (key bytes lens input output scratch : List ℕ) : Type 0 where
   pub keyed : isKeyLength (length key) ≡ true
   pub listed : total lens ≡ length bytes
+  pub few : length lens ≤ 126
   pub tagged : 16 ≤ length input
   pub limited : length input ≤ 1048592
   pub roomy : length input - 16 ≤ length output
@@ -277,6 +290,11 @@ pub genuine-by : (key : List ℕ) (ss : List (List ℕ)) (y : List ℕ) {v ciphe
 unfolding genuine
 genuine-by key ss y p q = ap₂ (λ (x w : List ℕ). same (tagOf key ss x) w) (opened-by key y p q) p
 
+pub genuine-work-by : (key : List ℕ) (ss : List (List ℕ)) (y : List ℕ) {v ciphertext : List ℕ} → v ≡ take 16 y → ciphertext ≡ drop 16 y
+    → streamedWork ciphertext + tagOfWork key ss (streamed key v ciphertext) ≡ genuineWork key ss y
+unfolding genuineWork
+genuine-work-by key ss y p q = ap₂ (λ (c x : List ℕ). streamedWork c + tagOfWork key ss x) q (opened-by key y p q)
+
 -- a string, read off the front that it was written to
 pub text-read : (text scratch : List ℕ) {used : List ℕ} {n : ℕ} → used ≡ put scratch 0 text → n ≡ length text → length text ≤ length scratch → take n used ≡ text
 text-read text scratch u n h =
@@ -306,6 +324,7 @@ module _ (key bytes lens input output scratch : List ℕ) where
       record {
         keyed = a .0;
         listed = a .1;
+        few = a .2;
         tagged = ltb-false (length input) 16 (f .0);
         limited = ltb-false (limit + 16) (length input) (g .0);
         roomy = ltb-false (length output) (length input - 16) (h .0);
@@ -332,19 +351,36 @@ module _ (key bytes lens input output scratch : List ℕ) where
   unfolding rows
   not-eight e = first-not 8 rows refl (λ q. omega arith) e
 
-  pub open-refused : (answer : Answer) → (outcomeOf answer .number ≡ 0 → ⊥) → outcomeOf answer ≡ withoutLength openJudged
-      → DidCall (openCall key bytes lens input output scratch) answer output scratch
+  pub open-refused : (answer : Answer) → (outcomeOf answer 0 .number ≡ 0 → ⊥) → outcomeOf answer 0 ≡ withoutLength openJudged
+      → DidCall (openCall key bytes lens input output scratch) (record { answer = answer; work = 0 }) output scratch
   unfolding openCall number
   open-refused answer k e =
       let due : openJudged ≡ 0 → ⊥ = λ z. k (ap (λ (o : Outcome). o .number) e ∙ z) in
       let off : eqb number 0 ≡ false = ne-eqb number 0 (λ z. due (sym (number-due due) ∙ z)) in
       let off8 : eqb number 8 ≡ false = ne-eqb number 8 (λ z. not-eight (sym (number-due due) ∙ z)) in
-      record { outcome = simp off (e ∙ ap withoutLength (sym (number-due due))); output = simp (off, off8); scratch = simp (off, off8) }
+      record { outcome = simp (off, off8) (e ∙ ap withoutLength (sym (number-due due))); output = simp (off, off8); scratch = simp (off, off8) }
 
   -- a refusal of the judgement is the call's number
   pub open-due : (openJudged ≡ 0 → ⊥) → openCall key bytes lens input output scratch .outcome .number ≡ openJudged
   unfolding openCall number
   open-due due = number-due due
+
+  -- with no work
+  pub open-due-work : (openJudged ≡ 0 → ⊥) → openCall key bytes lens input output scratch .outcome .work ≡ 0
+  unfolding openCall number
+  open-due-work due =
+      let off : eqb number 0 ≡ false = ne-eqb number 0 (λ z. due (sym (number-due due) ∙ z)) in
+      let off8 : eqb number 8 ≡ false = ne-eqb number 8 (λ z. not-eight (sym (number-due due) ∙ z)) in
+      simp (off, off8)
+
+  -- past the judgement the work is that of telling
+  pub open-work : openJudged ≡ 0 → openCall key bytes lens input output scratch .outcome .work ≡ genuineWork key (strings bytes lens) input
+  unfolding openCall number
+  open-work judged = go (genuine key (strings bytes lens) input) (by-tag judged)
+    where
+      go : (g : Bool) → number ≡ cond (not g) 8 0 → cond (eqb number 0 || eqb number 8) (genuineWork key (strings bytes lens) input) 0 ≡ genuineWork key (strings bytes lens) input
+      go true e = simp e
+      go false e = simp e
 
   -- past the judgement the number is 0 where the string is genuine
   pub open-number : openJudged ≡ 0 → eqb (openCall key bytes lens input output scratch .outcome .number) 0 ≡ genuine key (strings bytes lens) input
@@ -366,14 +402,14 @@ module _ (key bytes lens input output scratch : List ℕ) where
       go false e = omega arith
 
   -- past the judgement what was read of a genuine string, or zeros, are in the output
-  pub open-delivered : (g : Bool) → genuine key (strings bytes lens) input ≡ g → openJudged ≡ 0 → (answer : Answer) (read output′ scratch′ : List ℕ)
-      → outcomeOf answer ≡ cond g (success (length input - 16)) (withoutLength 8) → (g ≡ true → read ≡ opened key input)
+  pub open-delivered : (g : Bool) → genuine key (strings bytes lens) input ≡ g → openJudged ≡ 0 → (report : Report) (read output′ scratch′ : List ℕ)
+      → ((w : ℕ) → outcomeOf (report .answer) w ≡ cond g (success (length input - 16) w) (forged w)) → report .work ≡ genuineWork key (strings bytes lens) input → (g ≡ true → read ≡ opened key input)
       → output′ ≡ put output 0 (cond g read (replicate (length input - 16) 0)) → scratch′ ≡ put scratch 0 (replicate (scratchNeed (length input - 16)) 0)
-      → DidCall (openCall key bytes lens input output scratch) answer output′ scratch′
+      → DidCall (openCall key bytes lens input output scratch) report output′ scratch′
   unfolding openCall number
-  open-delivered true e judged answer read output′ scratch′ o t p q =
+  open-delivered true e judged report read output′ scratch′ o w t p q =
       let none : number ≡ 0 = by-tag judged ∙ ap (λ (b : Bool). cond (not b) 8 0) e in
-      record { outcome = simp none o; output = simp none (p ∙ ap (put output 0) (t refl)); scratch = simp none q }
-  open-delivered false e judged answer read output′ scratch′ o t p q =
+      record { outcome = simp none (o _ ∙ ap (success (length input - 16)) w); output = simp none (p ∙ ap (put output 0) (t refl)); scratch = simp none q }
+  open-delivered false e judged report read output′ scratch′ o w t p q =
       let eight : number ≡ 8 = by-tag judged ∙ ap (λ (b : Bool). cond (not b) 8 0) e in
-      record { outcome = simp eight o; output = simp eight p; scratch = simp eight q }
+      record { outcome = simp eight (o _ ∙ ap forged w); output = simp eight p; scratch = simp eight q }

@@ -1,11 +1,11 @@
 -- Laws of a ring of keys.
 -- Assumes nothing.
-use mathlib.Core.Path.{_≡_, refl, ap, sym, subst, _∙_}
+use mathlib.Core.Path.{_≡_, refl, ap, ap₂, sym, subst, _∙_}
 use mathlib.Core.Bool.{Bool, true, false, false≢true, cond, _||_, or-true}
 use mathlib.Core.List.{List, _++_}
 use Prim.Native.Nat.{ℕ, zero, suc, _+_, _-_, _*_, _≤_, _<_}
 use native.Mathlib.Decide.{ℕ-discrete, decLt}
-use native.Mathlib.Nat.{sub-zero, div-eq-of-eq-mul-left, mul-le-mul-right}
+use native.Mathlib.Nat.{zero-add, add-zero, add-assoc, add-mul, sub-zero, div-eq-of-eq-mul-left, mul-le-mul-right}
 use native.Mathlib.Omega.{arith}
 use lib.Dec.{eqb, ltb}
 use lib.ListN.{length, take, drop, replicate, length-take, length-drop}
@@ -14,11 +14,11 @@ use Rattle.octets.specs.Octets.{put}
 use Rattle.header.specs.Header.{strings}
 use Rattle.siv.specs.declared.Answer.{Answer}
 use Rattle.siv.specs.declared.RingAnswer.{RingAnswer}
-use Rattle.siv.specs.Answer.{Outcome, Row, first, outcomeOf, success, withoutLength}
+use Rattle.siv.specs.Answer.{Outcome, Row, first, outcomeOf, success, withoutLength, forged}
 use Rattle.siv.specs.Calls.{isKeyLength, limit, scratchNeed, headerRows, openRows, DidCall}
-use Rattle.siv.specs.Ring.{isRing, slotCount, slotKey, firstSlot, ringRows, RingResult, refusedRing, DidRing, openSlot, openRing}
-use Rattle.siv.specs.Siv.{opened, genuine}
-use Rattle.siv.proofs.Laws.{first-none, first-pass, first-stop, openJudged, open-admits, open-due, open-count, open-number, open-refused, open-delivered, length-opened, text-read, scratch-wiped}
+use Rattle.siv.specs.Ring.{isRing, slotCount, slotKey, firstSlot, triedWork, ringRows, RingResult, refusedRing, DidRing, openSlot, opensAt, workAt, openSlotWith, openRing}
+use Rattle.siv.specs.Siv.{opened, genuine, genuineWork}
+use Rattle.siv.proofs.Laws.{first-none, first-pass, first-stop, outcome-with, openJudged, open-admits, open-due, open-due-work, open-count, open-number, open-work, open-refused, open-delivered, length-opened, text-read, scratch-wiped}
 
 -- ---- lengths
 
@@ -117,23 +117,52 @@ firstSlot-passed test i (suc n) j l h = go (test i) refl (firstSlot-passed test 
     go false e ih h (yes p) = ap test p ∙ e
     go false e ih h (no p) = ih (omega arith) h
 
+-- ---- the work of the slots that are tried
+
+-- tests and works that agree on the slots give the same sum
+pub tried-same : (test test′ : ℕ → Bool) (work work′ : ℕ → ℕ) (i n : ℕ) → ((j : ℕ) → j < i + n → test j ≡ test′ j) → ((j : ℕ) → j < i + n → work j ≡ work′ j)
+    → triedWork test work i n ≡ triedWork test′ work′ i n
+tried-same test test′ work work′ i zero t w = refl
+tried-same test test′ work work′ i (suc n) t w =
+    ap₂ (λ (k : ℕ) (b : Bool). k + cond b 0 (triedWork test work (suc i) n)) (w i (omega arith)) (t i (omega arith))
+    ∙ ap (λ (m : ℕ). work′ i + cond (test′ i) 0 m) (tried-same test test′ work work′ (suc i) n (λ j h. t j (omega arith)) (λ j h. w j (omega arith)))
+
+-- where no slot has work, there is none
+pub tried-none : (test : ℕ → Bool) (work : ℕ → ℕ) (i n : ℕ) → ((j : ℕ) → j < i + n → work j ≡ 0) → triedWork test work i n ≡ 0
+tried-none test work i zero w = refl
+tried-none test work i (suc n) w = ap (λ (k : ℕ). k + cond (test i) 0 (triedWork test work (suc i) n)) (w i (omega arith)) ∙ go (test i) (tried-none test work (suc i) n (λ j h. w j (omega arith)))
+  where
+    go : (t : Bool) → triedWork test work (suc i) n ≡ 0 → 0 + cond t 0 (triedWork test work (suc i) n) ≡ 0
+    go true e = refl
+    go false e = omega (arith, e)
+
 -- ---- the search for it
 
--- how far the search is where so many slots are left: none before them passed, and of the scratch only the first n bytes were used
-pub record Searching (test : ℕ → Bool) (count n : ℕ) (scratch used : List ℕ) (left : ℕ) : Type 0 where
+-- how far the search is where so many slots are left: none before them passed, their work is added up, and of the scratch only the first n bytes were used
+pub record Searching (test : ℕ → Bool) (work : ℕ → ℕ) (most count n : ℕ) (scratch used : List ℕ) (left sum : ℕ) : Type 0 where
   pub few : left ≤ count
   pub long : length used ≡ length scratch
   pub rest : drop n used ≡ drop n scratch
   pub first : firstSlot test (count - left) left ≡ firstSlot test 0 count
+  pub tried : sum + triedWork test work (count - left) left ≡ triedWork test work 0 count
+  pub small : sum ≤ (count - left) * most
 
-module _ (test : ℕ → Bool) (count n : ℕ) (scratch : List ℕ) where
-  pub searching-none : Searching test count n scratch scratch count
-  searching-none = record { few = omega arith; long = refl; rest = refl; first = ap (λ (i : ℕ). firstSlot test i count) (omega arith) }
+module _ (test : ℕ → Bool) (work : ℕ → ℕ) (most count n : ℕ) (scratch : List ℕ) where
+  pub searching-none : Searching test work most count n scratch scratch count 0
+  searching-none =
+      record {
+        few = omega arith;
+        long = refl;
+        rest = refl;
+        first = ap (λ (i : ℕ). firstSlot test i count) (omega arith);
+        tried = zero-add _ ∙ ap (λ (i : ℕ). triedWork test work i count) (omega arith);
+        small = omega arith;
+      }
 
-  pub searching-more : (used used′ : List ℕ) (left : ℕ) → Searching test count n scratch used left → (left ≡ 0 → ⊥) → test (count - left) ≡ false
-      → length used′ ≡ length used → drop n used′ ≡ drop n used → Searching test count n scratch used′ (left - 1)
-  searching-more used used′ zero s z t l r = absurd (z refl)
-  searching-more used used′ (suc left) s z t l r =
+  pub searching-more : (used used′ : List ℕ) (left sum w : ℕ) → Searching test work most count n scratch used left sum → (left ≡ 0 → ⊥) → test (count - left) ≡ false
+      → w ≡ work (count - left) → w ≤ most → length used′ ≡ length used → drop n used′ ≡ drop n used → Searching test work most count n scratch used′ (left - 1) (sum + w)
+  searching-more used used′ zero sum w s z t e m l r = absurd (z refl)
+  searching-more used used′ (suc left) sum w s z t e m l r =
       let less : suc left - 1 ≡ left = omega arith in
       let next : suc (count - suc left) ≡ count - left = omega (arith, s .few) in
       record {
@@ -141,16 +170,31 @@ module _ (test : ℕ → Bool) (count n : ℕ) (scratch : List ℕ) where
         long = l ∙ s .long;
         rest = r ∙ s .rest;
         first = ap (λ (m : ℕ). firstSlot test (count - m) m) less ∙ sym (ap (λ (i : ℕ). firstSlot test i left) next) ∙ sym (ap (λ (b : Bool). cond b (count - suc left) (firstSlot test (suc (count - suc left)) left)) t) ∙ s .first;
+        tried =
+            ap₂ (λ (i m : ℕ). sum + w + triedWork test work i m) (ap (λ (m : ℕ). count - m) less ∙ sym next) less
+            ∙ ap (λ (k : ℕ). sum + k + triedWork test work (suc (count - suc left)) left) e
+            ∙ add-assoc sum (work (count - suc left)) (triedWork test work (suc (count - suc left)) left)
+            ∙ ap (λ (b : Bool). sum + (work (count - suc left) + cond b 0 (triedWork test work (suc (count - suc left)) left))) (sym t)
+            ∙ s .tried;
+        small =
+            omega
+            (arith, s .small, m, ap (λ (i : ℕ). i * most) (next ∙ ap (λ (i : ℕ). count - i) (sym less)), add-mul (count - suc left) 1 most);
       }
 
-  pub searching-found : (used : List ℕ) (left : ℕ) → Searching test count n scratch used left → (left ≡ 0 → ⊥) → test (count - left) ≡ true
-      → count - left ≡ firstSlot test 0 count
-  searching-found used zero s z t = absurd (z refl)
-  searching-found used (suc left) s z t =
-      sym (ap (λ (b : Bool). cond b (count - suc left) (firstSlot test (suc (count - suc left)) left)) t) ∙ s .first
+  pub searching-found : (used : List ℕ) (left sum w : ℕ) → Searching test work most count n scratch used left sum → (left ≡ 0 → ⊥) → test (count - left) ≡ true → w ≡ work (count - left)
+      → (count - left ≡ firstSlot test 0 count) × (sum + w ≡ triedWork test work 0 count)
+  searching-found used zero sum w s z t e = absurd (z refl)
+  searching-found used (suc left) sum w s z t e = (
+    sym (ap (λ (b : Bool). cond b (count - suc left) (firstSlot test (suc (count - suc left)) left)) t) ∙ s .first,
+    ap (λ (k : ℕ). sum + k) (e ∙ sym (add-zero (work (count - suc left))))
+        ∙ ap (λ (b : Bool). sum + (work (count - suc left) + cond b 0 (triedWork test work (suc (count - suc left)) left))) (sym t)
+        ∙ s .tried,
+  )
 
-  pub searching-all : (used : List ℕ) → Searching test count n scratch used 0 → count ≡ firstSlot test 0 count
-  searching-all used s = sym (sub-zero count) ∙ s .first
+  pub searching-all : (used : List ℕ) (left sum : ℕ) → Searching test work most count n scratch used left sum → left ≡ 0
+      → (count ≡ firstSlot test 0 count) × (sum ≡ triedWork test work 0 count)
+  searching-all used zero sum s z = (sym (sub-zero count) ∙ s .first, sym (add-zero sum) ∙ s .tried)
+  searching-all used (suc left) sum s z = absurd (omega arith)
 
 -- ---- the slot that is chosen
 
@@ -204,22 +248,23 @@ module _ (test : ℕ → Bool) (n : ℕ) where
 -- ---- the call
 
 module _ (keyLength : ℕ) (ring bytes lens input output scratch : List ℕ) where
-  -- whether the key of slot i opens
-  abbrev pub opensAt : ℕ → Bool
-  opensAt i = eqb (openSlot keyLength ring bytes lens input output scratch i .outcome .number) 0
+  -- the work of all keys that are tried
+  abbrev pub ringWork : ℕ
+  ringWork =
+      triedWork (opensAt keyLength ring bytes lens input output scratch) (workAt keyLength ring bytes lens input output scratch) 0 (slotCount keyLength (length ring))
 
   abbrev pub withSlot : ℕ → RingResult
-  withSlot s = record { slot = s; call = openSlot keyLength ring bytes lens input output scratch s }
+  withSlot s = record { slot = s; call = openSlotWith keyLength ring bytes lens input output scratch s ringWork }
 
   -- what the call comes to where n is the number of the refusals that judge the ring
   pub data Comes (n : ℕ) : RingResult → Type 0 where
-    goes : {s : ℕ} → n ≡ 0 → Chosen opensAt (slotCount keyLength (length ring)) s → Comes n (withSlot s)
+    goes : {s : ℕ} → n ≡ 0 → Chosen (opensAt keyLength ring bytes lens input output scratch) (slotCount keyLength (length ring)) s → Comes n (withSlot s)
     stops : (n ≡ 0 → ⊥) → Comes n (refusedRing n output scratch)
 
   abbrev pub cameTo : ℕ → RingResult
   cameTo n =
       let count = slotCount keyLength (length ring) in
-      let f = firstSlot opensAt 0 count in
+      let f = firstSlot (opensAt keyLength ring bytes lens input output scratch) 0 count in
       cond (eqb n 0) (withSlot (cond (ltb f count) f 0)) (refusedRing n output scratch)
 
   pub comes : (n : ℕ) → Comes n (cameTo n)
@@ -227,9 +272,9 @@ module _ (keyLength : ℕ) (ring bytes lens input output scratch : List ℕ) whe
     where
       go : (t : Bool) → eqb n 0 ≡ t
           → let count = slotCount keyLength (length ring) in
-          let f = firstSlot opensAt 0 count in
+          let f = firstSlot (opensAt keyLength ring bytes lens input output scratch) 0 count in
           Comes n (cond t (withSlot (cond (ltb f count) f 0)) (refusedRing n output scratch))
-      go true e = goes (eqb-true n 0 e) (chosen opensAt (slotCount keyLength (length ring)))
+      go true e = goes (eqb-true n 0 e) (chosen (opensAt keyLength ring bytes lens input output scratch) (slotCount keyLength (length ring)))
       go false e = stops (eqb-false n 0 e)
 
   pub ring-comes : Comes (first (ringRows keyLength (length ring))) (openRing keyLength ring bytes lens input output scratch)
@@ -264,12 +309,12 @@ module _ (keyLength : ℕ) (ring bytes lens input output scratch : List ℕ) whe
   slot-passed e i h = slot-judged (ring-judged e .0) i h ∙ ring-judged e .1
 
   -- a refusal of the judgement is the ring's
-  pub ring-refused : (answer : Answer) → (outcomeOf answer .number ≡ 0 → ⊥) → outcomeOf answer ≡ withoutLength ringJudged
-      → DidRing (openRing keyLength ring bytes lens input output scratch) (record { answer = answer; slot = 0 }) output scratch
+  pub ring-refused : (answer : Answer) → (outcomeOf answer 0 .number ≡ 0 → ⊥) → outcomeOf answer 0 ≡ withoutLength ringJudged
+      → DidRing (openRing keyLength ring bytes lens input output scratch) (record { answer = answer; slot = 0; work = 0 }) output scratch
   ring-refused answer k e = go (ring-comes keyLength ring bytes lens input output scratch)
     where
       go : {result : RingResult} → Comes keyLength ring bytes lens input output scratch (first (ringRows keyLength (length ring))) result
-          → DidRing result (record { answer = answer; slot = 0 }) output scratch
+          → DidRing result (record { answer = answer; slot = 0; work = 0 }) output scratch
       go (stops z) =
           record {
             slot = refl;
@@ -277,18 +322,33 @@ module _ (keyLength : ℕ) (ring bytes lens input output scratch : List ℕ) whe
           }
       go (goes {s} z g) =
           let pass : ringJudged ≡ restJudged = first-pass (ringRows keyLength (length ring)) restRows refl z in
-          let judged = slot-judged z s (chosen-within _ _ (ring-admits keyLength (length ring) z .1 .some) g) in
-          let due : openJudged (slotKey keyLength ring s) bytes lens input output scratch ≡ 0 → ⊥ = λ y. k (ap (λ (o : Outcome). o .number) e ∙ pass ∙ sym judged ∙ y) in
+          let within = chosen-within _ _ (ring-admits keyLength (length ring) z .1 .some) g in
+          let judged = slot-judged z s within in
+          let due-at : (i : ℕ) → i < slotCount keyLength (length ring) → openJudged (slotKey keyLength ring i) bytes lens input output scratch ≡ 0 → ⊥ =
+          λ i h y. k (ap (λ (o : Outcome). o .number) e ∙ pass ∙ sym (slot-judged z i h) ∙ y) in
+          let due = due-at s within in
+          let none : ringWork keyLength ring bytes lens input output scratch ≡ 0 =
+          tried-none _ _ 0 (slotCount keyLength (length ring)) (λ j h. open-due-work (slotKey keyLength ring j) bytes lens input output scratch (due-at j (omega arith))) in
+          let refused = open-refused (slotKey keyLength ring s) bytes lens input output scratch answer k (e ∙ ap withoutLength (pass ∙ sym judged)) in
           let closed : opensAt keyLength ring bytes lens input output scratch s ≡ false =
           ne-eqb (openSlot keyLength ring bytes lens input output scratch s .outcome .number) 0 (λ y. due (sym (open-due (slotKey keyLength ring s) bytes lens input output scratch due) ∙ y)) in
-          record { slot = sym (chosen-closed _ _ g closed); call = open-refused (slotKey keyLength ring s) bytes lens input output scratch answer k (e ∙ ap withoutLength (pass ∙ sym judged)) }
+          record {
+            slot = sym (chosen-closed _ _ g closed);
+            call =
+                record {
+                  outcome = outcome-with answer 0 0 (refused .outcome) (sym none);
+                  output = refused .output;
+                  scratch = refused .scratch;
+                };
+          }
 
   -- past the judgement a slot's key opens where the string is genuine under it
   ring-tried : ringJudged ≡ 0 → (given : RingAnswer) (last last′ : List ℕ)
       → Chosen (λ i. genuine (slotKey keyLength ring i) (strings bytes lens) input) (slotCount keyLength (length ring)) (given .slot)
-      → DidCall (openSlot keyLength ring bytes lens input output scratch (given .slot)) (given .answer) last last′
+      → given .work ≡ triedWork (λ i. genuine (slotKey keyLength ring i) (strings bytes lens) input) (λ i. genuineWork (slotKey keyLength ring i) (strings bytes lens) input) 0 (slotCount keyLength (length ring))
+      → (w : ℕ) → DidCall (openSlot keyLength ring bytes lens input output scratch (given .slot)) (record { answer = given .answer; work = w }) last last′
       → DidRing (openRing keyLength ring bytes lens input output scratch) given last last′
-  ring-tried e given last last′ g d = go (ring-comes keyLength ring bytes lens input output scratch)
+  ring-tried e given last last′ g sum w d = go (ring-comes keyLength ring bytes lens input output scratch)
     where
       go : {result : RingResult} → Comes keyLength ring bytes lens input output scratch (first (ringRows keyLength (length ring))) result → DidRing result given last last′
       go (stops z) = absurd (z (ring-judged e .0))
@@ -296,17 +356,32 @@ module _ (keyLength : ℕ) (ring bytes lens input output scratch : List ℕ) whe
           let opens = chosen-same _ _ (λ i. genuine (slotKey keyLength ring i) (strings bytes lens) input)
           (λ i h. open-number (slotKey keyLength ring i) bytes lens input output scratch (slot-passed e i h)) g′ in
           let at : given .slot ≡ s = chosen-one _ _ g opens in
-          record { slot = at; call = subst (λ (i : ℕ). DidCall (openSlot keyLength ring bytes lens input output scratch i) (given .answer) last last′) at d }
+          let all : given .work ≡ ringWork keyLength ring bytes lens input output scratch =
+          sum
+          ∙ sym
+          (tried-same _ _ _ _ 0 (slotCount keyLength (length ring)) (λ j h. open-number (slotKey keyLength ring j) bytes lens input output scratch (slot-passed e j (omega arith)))
+          (λ j h. open-work (slotKey keyLength ring j) bytes lens input output scratch (slot-passed e j (omega arith)))) in
+          let one = subst (λ (i : ℕ). DidCall (openSlot keyLength ring bytes lens input output scratch i) (record { answer = given .answer; work = w }) last last′) at d in
+          record {
+            slot = at;
+            call =
+                record {
+                  outcome = outcome-with (given .answer) w (given .work) (one .outcome) all;
+                  output = one .output;
+                  scratch = one .scratch;
+                };
+          }
 
   -- what the search and the delivery after it come to: r is the search's result, and used what it left in the scratch
   pub ring-delivered : ringJudged ≡ 0 → (r : ℕ) → r ≡ firstSlot (λ i. genuine (slotKey keyLength ring i) (strings bytes lens) input) 0 (slotCount keyLength (length ring))
       → (given : RingAnswer) (used output′ scratch′ : List ℕ) → given .slot ≡ cond (ltb r (slotCount keyLength (length ring))) r 0
       → (r < slotCount keyLength (length ring) → used ≡ put scratch 0 (opened (slotKey keyLength ring r) input))
-      → outcomeOf (given .answer) ≡ cond (ltb r (slotCount keyLength (length ring))) (success (length input - 16)) (withoutLength 8)
+      → given .work ≡ triedWork (λ i. genuine (slotKey keyLength ring i) (strings bytes lens) input) (λ i. genuineWork (slotKey keyLength ring i) (strings bytes lens) input) 0 (slotCount keyLength (length ring))
+      → ((w : ℕ) → outcomeOf (given .answer) w ≡ cond (ltb r (slotCount keyLength (length ring))) (success (length input - 16) w) (forged w))
       → output′ ≡ put output 0 (cond (ltb r (slotCount keyLength (length ring))) (take (length input - 16) used) (replicate (length input - 16) 0))
       → drop (length input - 16) used ≡ drop (length input - 16) scratch → scratch′ ≡ put used 0 (replicate (scratchNeed (length input - 16)) 0)
       → DidRing (openRing keyLength ring bytes lens input output scratch) given output′ scratch′
-  ring-delivered judged r search given used output′ scratch′ at text o p rest wiped = go (ltb r count) (ltb-true r count) (ltb-false r count) at o p
+  ring-delivered judged r search given used output′ scratch′ at text sum o p rest wiped = go (ltb r count) (ltb-true r count) (ltb-false r count) at o p
     where
       count : ℕ
       count = slotCount keyLength (length ring)
@@ -319,15 +394,16 @@ module _ (keyLength : ℕ) (ring bytes lens input output scratch : List ℕ) whe
 
       -- the slot chosen, the test of its key, and what was read where it is passed
       by : (s : ℕ) (g : Bool) → given .slot ≡ s → s < count → Chosen test count s → test s ≡ g → (g ≡ true → take (length input - 16) used ≡ opened (slotKey keyLength ring s) input)
-          → outcomeOf (given .answer) ≡ cond g (success (length input - 16)) (withoutLength 8) → output′ ≡ put output 0 (cond g (take (length input - 16) used) (replicate (length input - 16) 0))
+          → ((w : ℕ) → outcomeOf (given .answer) w ≡ cond g (success (length input - 16) w) (forged w)) → output′ ≡ put output 0 (cond g (take (length input - 16) used) (replicate (length input - 16) 0))
           → DidRing (openRing keyLength ring bytes lens input output scratch) given output′ scratch′
       by s g e h c t read o p =
-          ring-tried judged given output′ scratch′ (subst (Chosen test count) (sym e) c)
-          (subst (λ (i : ℕ). DidCall (openSlot keyLength ring bytes lens input output scratch i) (given .answer) output′ scratch′) (sym e)
-          (open-delivered (slotKey keyLength ring s) bytes lens input output scratch g t (slot-passed judged s h) (given .answer) (take (length input - 16) used) output′ scratch′ o read p
+          let w = genuineWork (slotKey keyLength ring s) (strings bytes lens) input in
+          ring-tried judged given output′ scratch′ (subst (Chosen test count) (sym e) c) sum w
+          (subst (λ (i : ℕ). DidCall (openSlot keyLength ring bytes lens input output scratch i) (record { answer = given .answer; work = w }) output′ scratch′) (sym e)
+          (open-delivered (slotKey keyLength ring s) bytes lens input output scratch g t (slot-passed judged s h) (record { answer = given .answer; work = w }) (take (length input - 16) used) output′ scratch′ o refl read p
           (scratch-wiped scratch used (length input - 16) rest wiped)))
 
-      go : (g : Bool) → (g ≡ true → r < count) → (g ≡ false → count ≤ r) → given .slot ≡ cond g r 0 → outcomeOf (given .answer) ≡ cond g (success (length input - 16)) (withoutLength 8)
+      go : (g : Bool) → (g ≡ true → r < count) → (g ≡ false → count ≤ r) → given .slot ≡ cond g r 0 → ((w : ℕ) → outcomeOf (given .answer) w ≡ cond g (success (length input - 16) w) (forged w))
           → output′ ≡ put output 0 (cond g (take (length input - 16) used) (replicate (length input - 16) 0)) → DidRing (openRing keyLength ring bytes lens input output scratch) given output′ scratch′
       go true below past e o p =
           let h = below refl in
@@ -350,7 +426,7 @@ module _ (keyLength : ℕ) (ring bytes lens input output scratch : List ℕ) whe
       )
 
   pub ring-small : (given : RingAnswer) (last last′ : List ℕ) → DidRing (openRing keyLength ring bytes lens input output scratch) given last last′
-      → (given .slot ≤ 3) × (outcomeOf (given .answer) .count ≤ limit)
+      → (given .slot ≤ 3) × (outcomeOf (given .answer) 0 .count ≤ limit)
   ring-small given last last′ d =
       let small = comes-small (λ z. z) (ring-comes keyLength ring bytes lens input output scratch) in
-      (omega (arith, small .0, d .slot), omega (arith, small .1, ap (λ (o : Outcome). o .count) (d .call .outcome)))
+      (omega (arith, small .0, d .slot), omega (arith, small .1, ap (λ (o : Outcome). o .count) (outcome-with (given .answer) (given .work) 0 (d .call .outcome) refl)))

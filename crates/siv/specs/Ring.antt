@@ -56,7 +56,14 @@ module _ (keyLength : ℕ) (ring bytes lens input output scratch : List ℕ) whe
   abbrev pub openSlot : ℕ → CallResult
   openSlot i = openCall (slotKey keyLength ring i) bytes lens input output scratch
 
-  -- the same with the work of several
+  -- whether it opens, and its work
+  abbrev pub opensAt : ℕ → Bool
+  opensAt i = eqb (openSlot i .outcome .number) 0
+
+  abbrev pub workAt : ℕ → ℕ
+  workAt i = openSlot i .outcome .work
+
+  -- whole opening with one slot's key, and the work of several
   abbrev pub openSlotWith : ℕ → ℕ → CallResult
   openSlotWith i work =
       let call = openSlot i in
@@ -71,11 +78,9 @@ module _ (keyLength : ℕ) (ring bytes lens input output scratch : List ℕ) whe
   openRing =
       let refusal = first (ringRows keyLength (length ring)) in
       let count = slotCount keyLength (length ring) in
-      let opens = λ (i : ℕ). eqb (openSlot i .outcome .number) 0 in
-      let found = firstSlot opens 0 count in
+      let found = firstSlot opensAt 0 count in
       let slot = cond (ltb found count) found 0 in
-      let work = triedWork opens (λ i. openSlot i .outcome .work) 0 count in
-      cond (eqb refusal 0) (record { slot = slot; call = openSlotWith slot work }) (refusedRing refusal output scratch)
+      cond (eqb refusal 0) (record { slot = slot; call = openSlotWith slot (triedWork opensAt workAt 0 count) }) (refusedRing refusal output scratch)
 
 -- what a ring's call promises: with what the lent slices held at entry, its answer, slot and what output and scratch hold at exit are the definition's
 abbrev pub PerformsRing : ℕ → Lent → Lent → Lent → Lent → Lent → Lent → RingAnswer → Type 0

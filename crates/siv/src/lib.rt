@@ -3,7 +3,7 @@ pub mod judge;
 mod work;
 
 ghost use mathlib.Core.Path.{_≡_};
-ghost use Prim.Native.Nat.{_≤_};
+ghost use Prim.Native.Nat.{_*_, _^_, _≤_};
 ghost use lib.ListN.{length};
 ghost use Rattle.siv.specs.Calls.{isKeyLength, sealCall, openCall, Performs};
 ghost use Rattle.siv.specs.Ring.{PerformsRing};
@@ -194,7 +194,8 @@ fn blocks_of(n: usize) -> usize
 // The blocks of strings of these lengths.
 fn blocks_of_all(lens: &[u32]) -> usize
     requires { ⌜ length (now lens) ≤ 126 ⌝ }
-    ensures { λ r. ⌜ r ≡ blocksOfAll (now (lens .entry)) ⌝ }
+    ensures all { λ r. ⌜ r ≡ blocksOfAll (now (lens .entry)) ⌝ }
+    ensures small { λ r. ⌜ r ≤ 126 * 2 ^ 28 ⌝ }
 {
     let mut blocks = 0;
     let mut i = 0;

@@ -220,7 +220,7 @@ pub(crate) fn first_slot(
 // Ends an opening of n bytes: what scratch has of them to the front of output if it is genuine, or zeros; then zeros over the scratch.
 pub(crate) fn deliver(genuine: bool, n: usize, output: &mut [u8], scratch: &mut [u8]) -> Answer
     requires { ⌜ (n ≤ length (now output)) × (scratchNeed n ≤ length (now scratch)) ⌝ }
-    ensures outcome { λ r. ⌜ (w : ℕ) → outcomeOf r w ≡ cond genuine (success n w) (forged w) ⌝ }
+    ensures outcome { λ r. ⌜ ((w : ℕ) → outcomeOf r w ≡ cond genuine (success n w) (forged w)) ⌝ }
     ensures output { λ _. ⌜ now (output .exit) ≡ put (now (output .entry)) 0 (cond genuine (take n (now (scratch .entry))) (replicate n 0)) ⌝ }
     ensures scratch { λ _. ⌜ now (scratch .exit) ≡ put (now (scratch .entry)) 0 (replicate (scratchNeed n) 0) ⌝ }
 {

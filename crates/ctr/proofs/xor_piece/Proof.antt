@@ -1,52 +1,58 @@
 -- `ctr::xor_piece` meets its contract.
 -- Assumes nothing.
-use mathlib.Core.Path.{ap, _∙_}
-use native.Mathlib.Omega.{arith}
+use mathlib.Core.Path.{_≡_, ap, _∙_}
+use mathlib.Core.List.{List}
+use Prim.Native.Nat.{ℕ}
+use lib.ListN.{length}
 use borrow.Author.Needs.{needs}
-use Rattle.octets.specs.Octets.{put}
+use Rattle.aes.specs.Cipher.{cipher}
 use Rattle.aes.proofs.Widths.{length-cipher}
-use Rattle.ctr.proofs.Pieces.{xorStream-none, xorStream-piece}
+use Rattle.ctr.specs.Counter.{clear, plus}
+use Rattle.ctr.proofs.Pieces.{xorStream-piece}
 use Rattle.ctr.proofs.xor_piece.Statement.{statement}
 use Rattle.ctr.proofs.xor_piece.Tie as tie
 
-returns : tie.Need-returns
-returns c = xorStream-none _ _ _ _ _ _ (c .if1 .taken)
+clear-requires : tie.Need-clear-requires
+clear-requires c κs = search needs
 
-key-block-requires : tie.Need-key-block-requires
-key-block-requires c κs = search needs
+plus-requires : tie.Need-plus-requires
+plus-requires c κs = search needs
 
-sub-xor-at : tie.Need-sub-xor-at
-sub-xor-at c = search needs
+encrypt-requires : tie.Need-encrypt-requires
+encrypt-requires c κs = search needs
 
-part-xor-at-start : tie.Need-part-xor-at-start
-part-xor-at-start c = search needs
-
-part-xor-at-end : tie.Need-part-xor-at-end
-part-xor-at-end c = search needs
+slice-aggregate-xor-at : tie.Need-slice-aggregate-xor-at
+slice-aggregate-xor-at c = search needs
 
 xor-at-requires : tie.Need-xor-at-requires
-xor-at-requires c κs = search needs
+xor-at-requires c κs =
+    let made = c .before .before .before .encrypt in
+    let size : length (made .result .block) ≡ 16 = ap length (made .ensures .block) ∙ length-cipher _ _ _ in
+    search needs
 
 same-length : tie.Need-same-length
 same-length c = search needs
 
-returns-2 : tie.Need-returns-2
-returns-2 c =
-    let called = c .before .before in
-    let made = called .before .before .before .before in
-    let args = made .before .before .before .before .args in
-    called .xor-at .ensures
-    ∙ ap (put (args .dst .now) (args .at)) (xorStream-piece _ (length-cipher (args .width) (args .keys .now)) (args .v) (args .i) (args .k) (args .src .now) (omega arith) (made .key-block .ensures))
+returns : tie.Need-returns
+returns c =
+    let wrote = c .before .before in
+    let made = wrote .before .before .before .before in
+    let start = made .before .before .before .before .before in
+    let args = start .args in
+    let count : made .before .plus .result ≡ plus (clear (args .v)) (args .i) = made .before .plus .ensures ∙ ap (λ (q : List ℕ). plus q (args .i)) (made .before .before .clear .ensures) in
+    let block = made .encrypt .ensures .block ∙ ap (cipher _ _) count in (
+      record { block = block; work = made .encrypt .ensures .work },
+      xorStream-piece _ (length-cipher (args .width) (args .keys .now)) _ _ _ _ _ (start .pre .2) block (wrote .xor-at .ensures),
+    )
 
 pub xor-piece-spec : {M : Type 1} → statement M
 xor-piece-spec =
     tie.close
     (tie.spec
-    returns
-    key-block-requires
-    sub-xor-at
-    part-xor-at-start
-    part-xor-at-end
+    clear-requires
+    plus-requires
+    encrypt-requires
+    slice-aggregate-xor-at
     xor-at-requires
     same-length
-    returns-2)
+    returns)

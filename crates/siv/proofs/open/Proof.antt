@@ -36,7 +36,7 @@ enum-told-2 c = search needs
 open-admitted-requires : tie.Need-open-admitted-requires
 open-admitted-requires c κs =
     let a = admits (c .before .before) in
-    ((a .keyed, omega (arith, a .listed)), a .tagged, omega (arith, a .scratchy))
+    ((a .keyed, omega (arith, a .listed), a .few), a .tagged, omega (arith, a .scratchy))
 
 sub-deliver : tie.Need-sub-deliver
 sub-deliver c = admits (c .before .before .before .before .before) .tagged
@@ -63,9 +63,10 @@ returns-2 c =
     let text = opened key y in
     let long : length text ≡ length y - 16 = length-opened key y in
     let used = opening .open-admitted .last .1 .1 .1 .1 .0 in
-    open-delivered _ _ _ _ _ _ (opening .open-admitted .result) (sym (opening .open-admitted .ensures .0)) (judged matched) (done .deliver .result) _ _ _ (done .deliver .ensures .0)
-    (λ _. text-read text (args .scratch .now) (opening .open-admitted .ensures .1) (sym long) (omega (arith, long, admits matched .scratchy))) (done .deliver .ensures .1 .0)
-    (scratch-wiped (args .scratch .now) used (length y - 16) (put-rest (args .scratch .now) text (opening .open-admitted .ensures .1) (sym long)) (done .deliver .ensures .1 .1))
+    let tried = opening .open-admitted .ensures in
+    open-delivered _ _ _ _ _ _ (opening .open-admitted .result .genuine) (sym (tried .0)) (judged matched) _ _ _ _ (done .deliver .ensures .0) (tried .1 .0)
+    (λ _. text-read text (args .scratch .now) (tried .1 .1) (sym long) (omega (arith, long, admits matched .scratchy))) (done .deliver .ensures .1 .0)
+    (scratch-wiped (args .scratch .now) used (length y - 16) (put-rest (args .scratch .now) text (tried .1 .1) (sym long)) (done .deliver .ensures .1 .1))
 
 pub open-spec : {M : Type 1} → statement M
 open-spec =

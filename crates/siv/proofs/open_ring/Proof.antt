@@ -57,7 +57,7 @@ div-slots c = key-length-some _ (whole (c .before) .0)
 first-slot-requires : tie.Need-first-slot-requires
 first-slot-requires c κs =
     let a = admits (c .before .before) in
-    (whole (c .before .before) .0, whole (c .before .before) .1 .whole, omega (arith, a .listed), a .tagged, omega (arith, a .scratchy))
+    (whole (c .before .before) .0, whole (c .before .before) .1 .whole, whole (c .before .before) .1 .most, omega (arith, a .listed), a .few, a .tagged, omega (arith, a .scratchy))
 
 sub-deliver : tie.Need-sub-deliver
 sub-deliver c = admits (c .before .before .before .before .before) .tagged
@@ -78,8 +78,8 @@ returns-2 c =
     let done = c .before .before .before .before .before in
     let searched = done .before .before .before .before .before in
     let search = searched .first-slot .ensures in
-    ring-delivered _ _ _ _ _ _ _ (judged (searched .before .before .before)) _ (search .0) _ _ _ _ (sym (ap (λ (t : Bool). cond t (searched .first-slot .result) 0) (lt-ltb _ _ (c .if1 .taken))))
-    (search .1 .0) (done .deliver .ensures .0) (done .deliver .ensures .1 .0) (search .1 .1) (done .deliver .ensures .1 .1)
+    ring-delivered _ _ _ _ _ _ _ (judged (searched .before .before .before)) _ (search .0) _ _ _ _ (sym (ap (λ (t : Bool). cond t (searched .first-slot .result .slot) 0) (lt-ltb _ _ (c .if1 .taken))))
+    (search .1 .1 .0) (search .1 .0) (done .deliver .ensures .0) (done .deliver .ensures .1 .0) (search .1 .1 .1) (done .deliver .ensures .1 .1)
 
 same-length-3 : tie.Need-same-length-3
 same-length-3 c = search needs
@@ -92,8 +92,8 @@ returns-3 c =
     let done = c .before .before .before .before .before in
     let searched = done .before .before .before .before .before in
     let search = searched .first-slot .ensures in
-    ring-delivered _ _ _ _ _ _ _ (judged (searched .before .before .before)) _ (search .0) _ _ _ _ (sym (ap (λ (t : Bool). cond t (searched .first-slot .result) 0) (le-ltb _ _ (c .if1 .left))))
-    (search .1 .0) (done .deliver .ensures .0) (done .deliver .ensures .1 .0) (search .1 .1) (done .deliver .ensures .1 .1)
+    ring-delivered _ _ _ _ _ _ _ (judged (searched .before .before .before)) _ (search .0) _ _ _ _ (sym (ap (λ (t : Bool). cond t (searched .first-slot .result .slot) 0) (le-ltb _ _ (c .if1 .left))))
+    (search .1 .1 .0) (search .1 .0) (done .deliver .ensures .0) (done .deliver .ensures .1 .0) (search .1 .1 .1) (done .deliver .ensures .1 .1)
 
 pub open-ring-spec : {M : Type 1} → statement M
 open-ring-spec =

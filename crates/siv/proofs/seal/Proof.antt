@@ -40,7 +40,7 @@ enum-told-2 c = search needs
 seal-admitted-requires : tie.Need-seal-admitted-requires
 seal-admitted-requires c κs =
     let a = admits (c .before .before) in
-    ((a .keyed, omega (arith, a .listed)), omega (arith, a .roomy))
+    ((a .keyed, omega (arith, a .listed), a .few), omega (arith, a .roomy))
 
 scratch-need-requires : tie.Need-scratch-need-requires
 scratch-need-requires c κs = search needs
@@ -50,8 +50,8 @@ zero-at-requires c κs =
     let a = admits (c .before .before .before .before .before .before .before) in
     omega (arith, a .scratchy, c .scratch-need .ensures)
 
-add-t12 : tie.Need-add-t12
-add-t12 c = search needs
+add-t13 : tie.Need-add-t13
+add-t13 c = search needs
 
 same-length : tie.Need-same-length
 same-length c = search needs
@@ -62,7 +62,8 @@ same-length-2 c = search needs
 returns-2 : tie.Need-returns-2
 returns-2 c =
     let scratch = c .before .before .before .before .before .before .before .before .before .before .before .before .before .before .before .before .before .before .args .scratch .now in
-    seal-done _ _ _ _ _ _ _ _ (admitted (c .before .before .before .before .before .before .before .before .before .before)) (c .before .before .before .before .before .before .before .seal-admitted .ensures)
+    let sealed = c .before .before .before .before .before .before .before .seal-admitted .ensures in
+    seal-done _ _ _ _ _ _ _ _ _ (admitted (c .before .before .before .before .before .before .before .before .before .before)) (sealed .0) (sealed .1)
     (c .before .before .zero-at .ensures ∙ ap (λ (n : ℕ). put scratch 0 (replicate n 0)) (c .before .before .before .scratch-need .ensures))
 
 pub seal-spec : {M : Type 1} → statement M
@@ -76,7 +77,7 @@ seal-spec =
     seal-admitted-requires
     scratch-need-requires
     zero-at-requires
-    add-t12
+    add-t13
     same-length
     same-length-2
     returns-2)

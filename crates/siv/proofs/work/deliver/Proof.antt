@@ -38,7 +38,7 @@ returns c =
     let tested = c .before .before .before .before .before .before .before .before .before .before .before in
     let args = tested .before .before .before .args in
     simp (tested .if1 .taken) (
-      refl,
+      λ w. refl,
       (
         c .before .before .before .before .before .before .before .copy-at .ensures ∙ ap (λ (m : ℕ). put (args .output .now) 0 (take m (args .scratch .now))) (sub-zero (args .n)),
         c .before .before .zero-at .ensures ∙ ap (λ (m : ℕ). put (args .scratch .now) 0 (replicate m 0)) (c .before .before .before .scratch-need .ensures),
@@ -65,7 +65,7 @@ returns-2 c =
     let tested = c .before .before .before .before .before .before .before .before .before in
     let args = tested .before .before .before .args in
     simp (tested .if1 .left) (
-      refl,
+      λ w. refl,
       (
         c .before .before .before .before .before .before .before .zero-at2 .ensures,
         c .before .before .zero-at3 .ensures ∙ ap (λ (m : ℕ). put (args .scratch .now) 0 (replicate m 0)) (c .before .before .before .scratch-need2 .ensures),

@@ -5,7 +5,7 @@ use borrow.Author.Needs.{needs}
 use Rattle.octets.specs.Octets.{put}
 use Rattle.octets.proofs.Strings.{part-rest}
 use Rattle.header.specs.Header.{strings}
-use Rattle.siv.proofs.Laws.{opened-by, genuine-by}
+use Rattle.siv.proofs.Laws.{opened-by, genuine-by, genuine-work-by}
 use Rattle.siv.proofs.work.open_admitted.Statement.{statement}
 use Rattle.siv.proofs.work.open_admitted.Tie as tie
 
@@ -38,7 +38,10 @@ returns c =
     let key = args .key .now in
     let y = args .sealed .now in (
       opening .0 ∙ genuine-by key (strings (args .header .now) (args .lens .now)) y (loaded .load .ensures) (part-rest y 16),
-      opening .1 ∙ ap (put (args .scratch .now) 0) (opened-by key y (loaded .load .ensures) (part-rest y 16)),
+      (
+        opening .1 .0 ∙ genuine-work-by key (strings (args .header .now) (args .lens .now)) y (loaded .load .ensures) (part-rest y 16),
+        opening .1 .1 ∙ ap (put (args .scratch .now) 0) (opened-by key y (loaded .load .ensures) (part-rest y 16)),
+      ),
     )
 
 pub open-admitted-spec : {M : Type 1} → statement M

@@ -11,7 +11,7 @@ use Rattle.octets.proofs.Strings.{part-rest}
 use Rattle.aes.specs.Aes.{isWidth}
 use Rattle.aes.specs.KeyExpansion.{roundKeys}
 use Rattle.ctr.specs.Counter.{xorStream}
-use Rattle.siv.specs.Siv.{ctrKey, streamed}
+use Rattle.siv.specs.Siv.{ctrKey, streamed, streamedWork}
 use Rattle.siv.proofs.Laws.{KeyHalves, halves, aes-cipher}
 use Rattle.siv.proofs.work.stream.Statement.{statement}
 use Rattle.siv.proofs.work.stream.Tie as tie
@@ -33,17 +33,17 @@ round-keys-requires c κs =
     let long : length (drop (length key / 2) key) ≡ length key / 2 = simp length-drop (omega arith) in
     (search needs, ap (λ (l : List ℕ). isWidth (length l)) (part-rest key (length key / 2)) ∙ ap isWidth long ∙ h .half)
 
-xor-stream-requires : tie.Need-xor-stream-requires
-xor-stream-requires c κs =
+xor-from-requires : tie.Need-xor-from-requires
+xor-from-requires c κs =
     let start = c .before .before .before .before .before .before .before in
     let h : KeyHalves (length (start .args .key .now)) = halves _ (start .pre .1) in
-    (search needs, h .most, start .pre .2)
+    (search needs, h .most, omega arith, start .pre .2)
 
 same-length : tie.Need-same-length
 same-length c = search needs
 
 returns : tie.Need-returns
-unfolding streamed
+unfolding streamed streamedWork
 returns c =
     let start = c .before .before .before .before .before .before .before .before .before .before in
     let args = start .args in
@@ -51,8 +51,10 @@ returns c =
     let h : KeyHalves (length key) = halves _ (start .pre .1) in
     let long : length key / 2 ≡ length (ctrKey key) = simp length-drop (omega arith) in
     let keys = c .before .before .before .before .before .round-keys .ensures ∙ ap roundKeys (part-rest key (length key / 2)) in
-    c .before .before .xor-stream .ensures
-    ∙ ap (λ (E : List ℕ → List ℕ). put (args .dst .now) (args .at) (xorStream E (args .v) 0 (args .src .now))) (aes-cipher (ctrKey key) long keys)
+    let wrote = c .before .before .xor-from .ensures in (
+      wrote .0 .work,
+      wrote .1 ∙ ap (λ (E : List ℕ → List ℕ). put (args .dst .now) (args .at) (xorStream E (args .v) 0 (args .src .now))) (aes-cipher (ctrKey key) long keys),
+    )
 
 pub stream-spec : {M : Type 1} → statement M
 stream-spec =
@@ -62,6 +64,6 @@ stream-spec =
     part-round-keys-start
     part-round-keys-end
     round-keys-requires
-    xor-stream-requires
+    xor-from-requires
     same-length
     returns)

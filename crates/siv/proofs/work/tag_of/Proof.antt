@@ -11,8 +11,8 @@ use borrow.Author.Needs.{needs}
 use Rattle.aes.specs.Aes.{isWidth}
 use Rattle.aes.specs.KeyExpansion.{roundKeys}
 use Rattle.header.specs.Header.{strings}
-use Rattle.s2v.specs.S2v.{s2v}
-use Rattle.siv.specs.Siv.{macKey, tagOf}
+use Rattle.s2v.specs.S2v.{s2v, s2vWork}
+use Rattle.siv.specs.Siv.{macKey, tagOf, tagOfWork}
 use Rattle.siv.proofs.Laws.{KeyHalves, halves, aes-cipher}
 use Rattle.siv.proofs.work.tag_of.Statement.{statement}
 use Rattle.siv.proofs.work.tag_of.Tie as tie
@@ -38,10 +38,10 @@ tag-under-requires : tie.Need-tag-under-requires
 tag-under-requires c κs =
     let start = c .before .before .before .before .before .before .before in
     let h : KeyHalves (length (start .args .key .now)) = halves _ (start .pre .1 .0) in
-    (search needs, h .most, start .pre .1 .1)
+    (search needs, h .most, start .pre .1 .1, start .pre .1 .2)
 
 returns : tie.Need-returns
-unfolding tagOf
+unfolding tagOf tagOfWork
 returns c =
     let start = c .before .before .before .before .before .before .before .before in
     let key = start .args .key .now in
@@ -49,7 +49,12 @@ returns c =
     let h : KeyHalves (length key) = halves _ (start .pre .1 .0) in
     let long : length key / 2 ≡ length (macKey key) = sym (length-take-le _ key (omega arith)) in
     let keys = c .before .before .round-keys .ensures ∙ ap (λ (n : ℕ). roundKeys (take n key)) (sub-zero (length key / 2)) in
-    c .tag-under .ensures ∙ ap (λ (E : List ℕ → List ℕ). s2v E ss (start .args .p .now)) (aes-cipher (macKey key) long keys)
+    let under = c .tag-under .ensures in
+    let is-aes = aes-cipher (macKey key) long keys in
+    record {
+      block = under .block ∙ ap (λ (E : List ℕ → List ℕ). s2v E ss (start .args .p .now)) is-aes;
+      work = under .work ∙ ap (λ (E : List ℕ → List ℕ). s2vWork E ss (start .args .p .now)) is-aes;
+    }
 
 pub tag-of-spec : {M : Type 1} → statement M
 tag-of-spec =

@@ -1,0 +1,64 @@
+-- `siv::planned_work` meets its contract.
+-- Assumes nothing.
+use mathlib.Core.Path.{_≡_, sym, _∙_}
+use mathlib.Core.Bool.{false}
+use native.Mathlib.Omega.{arith}
+use lib.Dec.{ltb}
+use lib.ListN.{length}
+use borrow.Author.Needs.{needs}
+use borrow.Author.Tests.{lt-ltb, le-ltb, ltb-false}
+use Rattle.siv.specs.Work.{plannedWork}
+use Rattle.siv.proofs.planned_work.Statement.{statement}
+use Rattle.siv.proofs.planned_work.Tie as tie
+
+too-many-requires : tie.Need-too-many-requires
+too-many-requires c κs = search needs
+
+returns : tie.Need-returns
+unfolding plannedWork
+returns c = simp (sym (c .before .too-many .ensures) ∙ c .if1 .taken)
+
+few : (c : tie.Else1) → ltb 126 (length (c .before .before .before .args .lens .now)) ≡ false
+few c = sym (c .before .too-many .ensures) ∙ c .if1 .left
+
+returns-2 : tie.Need-returns-2
+unfolding plannedWork
+returns-2 c = simp (few (c .before), lt-ltb _ _ (c .if2 .taken))
+
+blocks-of-all-requires : tie.Need-blocks-of-all-requires
+blocks-of-all-requires c κs = ltb-false _ _ (few (c .before))
+
+add-result : tie.Need-add-result
+add-result c = omega (arith, c .blocks-of-all .ensures)
+
+blocks-of-requires : tie.Need-blocks-of-requires
+blocks-of-requires c κs = search needs
+
+add-result-2 : tie.Need-add-result-2
+add-result-2 c = omega (arith, c .before .blocks-of-all .ensures, c .blocks-of .ensures)
+
+add-result-3 : tie.Need-add-result-3
+add-result-3 c = search needs
+
+add-result-4 : tie.Need-add-result-4
+add-result-4 c = omega (arith, c .before .blocks-of-all .ensures, c .blocks-of .ensures)
+
+returns-3 : tie.Need-returns-3
+unfolding plannedWork
+returns-3 c =
+    simp (few (c .before .before .before), le-ltb _ _ (c .before .before .if2 .left)) (omega (arith, c .before .blocks-of-all .ensures .0, c .blocks-of .ensures))
+
+pub planned-work-spec : {M : Type 1} → statement M
+planned-work-spec =
+    tie.close
+    (tie.spec
+    too-many-requires
+    returns
+    returns-2
+    blocks-of-all-requires
+    add-result
+    blocks-of-requires
+    add-result-2
+    add-result-3
+    add-result-4
+    returns-3)
