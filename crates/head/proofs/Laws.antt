@@ -1,6 +1,6 @@
 -- Laws of heads: the one that the code puts together, a head with the next strings, and what the refusals leave.
 -- Assumes nothing.
-use mathlib.Core.Path.{_≡_, ap, ap₂, sym, _∙_}
+use mathlib.Core.Path.{_≡_, refl, ap, ap₂, sym, subst, _∙_}
 use mathlib.Core.Bool.{true, not, and-eq-true-iff}
 use mathlib.Core.List.{List, [], _∷_, _++_}
 use Prim.Native.Nat.{ℕ, _+_, _/_, _≤_}
@@ -16,15 +16,15 @@ use Rattle.cmac.specs.declared.Subkeys.{Subkeys}
 use Rattle.cmac.specs.Cmac.{zeros, subkeys, zeroCipher, cmac}
 use Rattle.header.specs.Header.{total, strings}
 use Rattle.header.proofs.Laws.{length-strings}
-use Rattle.s2v.specs.S2v.{absorbStrings, headerResult}
+use Rattle.s2v.specs.S2v.{absorbStrings, absorbWork, headerResult}
 use Rattle.s2v.proofs.Laws.{absorb-append}
 use Rattle.siv.specs.declared.Answer.{Answer}
-use Rattle.siv.specs.declared.Answer.the-variants.{Ok}
-use Rattle.siv.specs.Answer.{Outcome, first, outcomeOf, success, withoutLength}
+use Rattle.siv.specs.Answer.{Outcome, first, outcomeOf, withoutLength}
 use Rattle.siv.specs.Siv.{macKey, ctrKey}
 use Rattle.siv.proofs.Laws.{not-due}
 use Rattle.head.specs.declared.Head.{Head}
-use Rattle.head.specs.Head.{zeroHead, headOf, extended, fitsHead, restRows, MakeResult, DidMake, settleHead}
+use Rattle.head.specs.declared.Made.{Made}
+use Rattle.head.specs.Head.{zeroHead, headOf, extended, extendedWork, fitsHead, restRows, MakeResult, DidMake, madeHead, settleHead}
 
 -- ---- the heads that the code puts together
 
@@ -65,6 +65,11 @@ pub stays : (bytes lens : List ℕ) (h : Head) → length lens ≡ 0 → h ≡ e
 unfolding extended strings absorbStrings
 stays bytes [] h e = ap (headWith (h .width) (h .«mac_keys») (h .«ctr_keys») (h .l) (h .d)) (omega arith)
 stays bytes (n ∷ lens) h e = absurd (omega arith)
+
+pub stays-work : (bytes lens : List ℕ) → length lens ≡ 0 → 0 ≡ extendedWork (strings bytes lens)
+unfolding extendedWork strings absorbWork
+stays-work bytes [] e = refl
+stays-work bytes (n ∷ lens) e = absurd (omega arith)
 
 -- ---- a head with the next strings is the head of all of them
 
@@ -108,19 +113,17 @@ rest-admits h lens restLength e =
 
 -- ---- the calls' results
 
-module _ (n : ℕ) (h : Head) where
-  pub settle-made : n ≡ 0 → settleHead n h ≡ record { outcome = success 0; head = h }
+module _ (n w : ℕ) (h : Head) where
+  pub settle-made : n ≡ 0 → settleHead n w h ≡ madeHead w h
   settle-made e = simp (eq-eqb n 0 e)
 
-  pub settle-refused : (n ≡ 0 → ⊥) → settleHead n h ≡ record { outcome = withoutLength n; head = zeroHead }
+  pub settle-refused : (n ≡ 0 → ⊥) → settleHead n w h ≡ record { outcome = withoutLength n; head = zeroHead }
   settle-refused z = simp (ne-eqb n 0 z)
 
-  pub make-refused : (a : Answer) {z : Head} → (outcomeOf a .number ≡ 0 → ⊥) → outcomeOf a ≡ withoutLength n → z ≡ zeroHead → DidMake (settleHead n h) (record { answer = a; head = z })
-  make-refused a k e z =
-      let r = settle-refused (λ p. k (ap (λ (o : Outcome). o .number) e ∙ p)) in
-      record { outcome = e ∙ sym (ap (λ (m : MakeResult). m .outcome) r); head = z ∙ sym (ap (λ (m : MakeResult). m .head) r) }
+  pub make-refused : (a : Answer) {made : Made} → (outcomeOf a 0 .number ≡ 0 → ⊥) → outcomeOf a 0 ≡ withoutLength n → DidMake (record { outcome = outcomeOf a 0; head = zeroHead }) made
+      → DidMake (settleHead n w h) made
+  make-refused a {made} k e d =
+      subst (λ (r : MakeResult). DidMake r made) (ap (λ (o : Outcome). record { outcome = o; head = zeroHead }) e ∙ sym (settle-refused (λ p. k (ap (λ (o : Outcome). o .number) e ∙ p)))) d
 
-  pub make-done : {g : Head} → n ≡ 0 → g ≡ h → DidMake (settleHead n h) (record { answer = Ok 0; head = g })
-  make-done e g =
-      let r = settle-made e in
-      record { outcome = sym (ap (λ (m : MakeResult). m .outcome) r); head = g ∙ sym (ap (λ (m : MakeResult). m .head) r) }
+  pub make-done : {made : Made} → n ≡ 0 → DidMake (madeHead w h) made → DidMake (settleHead n w h) made
+  make-done {made} e d = subst (λ (r : MakeResult). DidMake r made) (sym (settle-made e)) d

@@ -83,8 +83,9 @@ pub(crate) fn extended(head: Head, rest: &[u8], lens: &[u32]) -> Made
     let k = cmac::make_subkeys(l);
     let before = Counted { block: d, work: 0 };
     let all = s2v::absorb_strings(&engine, head.width, &keys, k, before, rest, lens);
+    let more = all.block;
     let mut next = head;
-    next.d = all.block;
+    next.d = more;
     next.count = head.count + lens.len();
     Made {
         answer: Answer::Ok(0),

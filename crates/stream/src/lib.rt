@@ -145,7 +145,8 @@ impl Stream {
             };
         }
         let end = work::stream_at(self, self.written, piece, output, 0);
-        self.kept = end.block;
+        let kept = end.block;
+        self.kept = kept;
         self.written = self.written + n;
         Step {
             answer: Answer::Ok(n),
@@ -187,7 +188,8 @@ impl Stream {
         }
         let at = self.total;
         let end = work::stream_at(self, at, piece, output, at);
-        self.kept = end.block;
+        let kept = end.block;
+        self.kept = kept;
         let mut step = tail::absorb(self, &output[at..at + n]);
         step.answer = Answer::Ok(n);
         step.work = end.work + step.work;

@@ -135,8 +135,9 @@ pub(crate) fn absorb(s: Stream, piece: &[u8]) -> Step
     let keys = s.mac_keys;
     let c = s.chain;
     let chain = chain_text(s.width, &keys, c, &tail[0..used], piece, n);
+    let block = chain.block;
     let rest = tail_joined(&tail[0..used], piece, 16 * n, left);
-    next.chain = chain.block;
+    next.chain = block;
     next.total = total;
     next.tail_len = left;
     next.tail = rest;

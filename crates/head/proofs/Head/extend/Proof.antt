@@ -22,12 +22,12 @@ judge-rest-requires c κs = search needs
 enum-told : tie.Need-enum-told
 enum-told c = search needs
 
-zero-head-requires : tie.Need-zero-head-requires
-zero-head-requires c κs = search needs
+refused-requires : tie.Need-refused-requires
+refused-requires c κs = search needs
 
 returns : tie.Need-returns
 unfolding extendHead
-returns c = make-refused _ _ (c .before .before .before .judge-rest .result) (told-refused (c .before .before .before .judge-rest .result) (c .before .before .match .keys1)) (c .before .before .before .judge-rest .ensures) (c .zero-head .ensures)
+returns c = make-refused _ _ _ (c .before .before .before .judge-rest .result) (told-refused (c .before .before .before .judge-rest .result) (c .before .before .match .keys1)) (c .before .before .before .judge-rest .ensures) (c .refused .ensures)
 
 enum-told-2 : tie.Need-enum-told-2
 enum-told-2 c = search needs
@@ -40,7 +40,7 @@ extended-requires c κs =
 
 returns-2 : tie.Need-returns-2
 unfolding extendHead
-returns-2 c = make-done _ _ (none (c .before .before)) (c .extended .ensures)
+returns-2 c = make-done _ _ _ (none (c .before .before)) (c .extended .ensures)
 
 pub extend-spec : {M : Type 1} → statement M
 extend-spec =
@@ -48,7 +48,7 @@ extend-spec =
     (tie.spec
     judge-rest-requires
     enum-told
-    zero-head-requires
+    refused-requires
     returns
     enum-told-2
     extended-requires

@@ -22,12 +22,12 @@ judge-header-requires c κs = search needs
 enum-told : tie.Need-enum-told
 enum-told c = search needs
 
-zero-head-requires : tie.Need-zero-head-requires
-zero-head-requires c κs = search needs
+refused-requires : tie.Need-refused-requires
+refused-requires c κs = search needs
 
 returns : tie.Need-returns
 unfolding makeHead
-returns c = make-refused _ _ (c .before .before .before .judge-header .result) (told-refused (c .before .before .before .judge-header .result) (c .before .before .match .keys1)) (c .before .before .before .judge-header .ensures) (c .zero-head .ensures)
+returns c = make-refused _ _ _ (c .before .before .before .judge-header .result) (told-refused (c .before .before .before .judge-header .result) (c .before .before .match .keys1)) (c .before .before .before .judge-header .ensures) (c .refused .ensures)
 
 enum-told-2 : tie.Need-enum-told-2
 enum-told-2 c = search needs
@@ -39,7 +39,7 @@ head-of-requires c κs =
 
 returns-2 : tie.Need-returns-2
 unfolding makeHead
-returns-2 c = make-done _ _ (none (c .before .before)) (c .head-of .ensures)
+returns-2 c = make-done _ _ _ (none (c .before .before)) (c .head-of .ensures)
 
 pub make-spec : {M : Type 1} → statement M
 make-spec =
@@ -47,7 +47,7 @@ make-spec =
     (tie.spec
     judge-header-requires
     enum-told
-    zero-head-requires
+    refused-requires
     returns
     enum-told-2
     head-of-requires

@@ -1,15 +1,18 @@
 -- `head::work::head_of` meets its contract.
 -- Assumes nothing.
-use mathlib.Core.Path.{_≡_, ap, _∙_}
+use mathlib.Core.Path.{_≡_, ap, ap₂, _∙_}
 use mathlib.Core.List.{List}
-use Prim.Native.Nat.{ℕ, _-_, _/_}
+use Prim.Native.Nat.{ℕ, _+_, _-_, _/_, _<_, _^_}
 use native.Mathlib.Omega.{arith}
 use lib.ListN.{length, take, drop, length-take, length-drop}
 use borrow.Author.Needs.{needs}
 use Rattle.octets.proofs.Strings.{part-rest}
 use Rattle.aes.specs.Aes.{isWidth}
 use Rattle.aes.specs.KeyExpansion.{roundKeys}
+use Rattle.siv.specs.Answer.{success}
 use Rattle.siv.proofs.Laws.{KeyHalves, halves}
+use Rattle.siv.proofs.Lengths.{blocks-most, header-lengths}
+use Rattle.head.specs.Head.{headOfWork}
 use Rattle.head.proofs.Laws.{prepared}
 use Rattle.head.proofs.work.head_of.Statement.{statement}
 use Rattle.head.proofs.work.head_of.Tie as tie
@@ -56,14 +59,33 @@ make-subkeys-requires : tie.Need-make-subkeys-requires
 make-subkeys-requires c κs = search needs
 
 make-header-result-requires : tie.Need-make-header-result-requires
-make-header-result-requires c κs = (search needs, halves _ (c .before .before .before .before .before .before .before .before .before .before .before .before .before .before .before .before .pre .0) .most, c .before .before .before .before .before .before .before .before .before .before .before .before .before .before .before .before .pre .1)
+make-header-result-requires c κs =
+    let start = c .before .before .before .before .before .before .before .before .before .before .before .before .before .before .before .before .before in
+    (search needs, halves _ (start .pre .0) .most, start .pre .1, start .pre .2)
+
+short : (start : tie.Start) → length (start .args .header .now) < 2 ^ 64
+short start = search needs
+
+add-t14 : tie.Need-add-t14
+add-t14 c =
+    let made = c .before .before .before in
+    let start = made .before .before .before .before .before .before .before .before .before .before .before .before .before .before .before .before .before .before in
+    let lens = start .args .lens .now in
+    omega (arith, made .before .before .before .before .before .zero-cipher .ensures .work, made .make-header-result .ensures .work ∙ header-lengths (start .args .header .now) lens (start .pre .1), blocks-most lens, start .pre .1, start .pre .2, short start)
 
 returns : tie.Need-returns
+unfolding headOfWork
 returns c =
-    let key = c .before .before .before .before .before .before .before .before .before .before .before .before .before .before .before .before .before .args .key .now in
+    let made = c .before .before .before in
+    let zero = made .before .before .before .before .before in
+    let key = made .before .before .before .before .before .before .before .before .before .before .before .before .before .before .before .before .before .before .args .key .now in
     let front : length key / 2 - 0 ≡ length key / 2 = omega arith in
-    prepared _ _ key (c .before .before .before .before .before .before .before .before .before .before .round-keys .ensures ∙ ap (λ (n : ℕ). roundKeys (take n key)) front) (c .before .before .before .before .before .before .before .round-keys2 .ensures ∙ ap roundKeys (part-rest key (length key / 2)))
-    (c .before .before .before .before .zero-cipher .ensures) (c .before .make-subkeys .ensures) (c .make-header-result .ensures)
+    record {
+      outcome = ap (success 0) (ap₂ _+_ (zero .zero-cipher .ensures .work) (made .make-header-result .ensures .work));
+      head =
+          prepared _ _ key (zero .before .before .before .before .before .before .round-keys .ensures ∙ ap (λ (n : ℕ). roundKeys (take n key)) front) (zero .before .before .before .round-keys2 .ensures ∙ ap roundKeys (part-rest key (length key / 2)))
+          (zero .zero-cipher .ensures .block) (made .before .before .before .make-subkeys .ensures) (made .make-header-result .ensures .block);
+    }
 
 pub head-of-spec : {M : Type 1} → statement M
 head-of-spec =
@@ -81,4 +103,5 @@ head-of-spec =
     zero-cipher-requires
     make-subkeys-requires
     make-header-result-requires
+    add-t14
     returns)
