@@ -128,11 +128,11 @@ xorStream-undo E v p s =
 
 -- ---- the block that is kept between two pieces
 
--- a piece that the kept block has a byte for each of begins no other
+-- a piece that ends with the kept block at the latest begins no other
 newBlocks-none : (place n : ℕ) → n ≤ leftOver place → newBlocks place n ≡ 0
 newBlocks-none place n h = omega arith
 
--- it is xored from its place in the block on
+-- it is xored with the kept block from its place there on
 from-place : (kept : List ℕ) (place : ℕ) (s : List ℕ) → length s ≤ leftOver place → xors s (drop (16 - leftOver place) kept) ≡ xors s (drop (place % 16) kept)
 unfolding xors
 from-place kept place [] h = refl
@@ -144,7 +144,7 @@ pub pieceWork-within : (place n : ℕ) → n ≤ leftOver place → pieceWork pl
 unfolding pieceWork streamWork
 pieceWork-within place n h = ap streamWork (newBlocks-none place n h)
 
--- behind the kept block a piece begins what as many bytes from a block's first on begin
+-- what goes beyond the kept block begins as many blocks as it would at the front of the key stream
 pub pieceWork-beyond : (place n : ℕ) → leftOver place ≤ n → pieceWork place n ≡ keyStreamWork (n - leftOver place)
 unfolding pieceWork keyStreamWork
 pieceWork-beyond place n h =
@@ -152,25 +152,25 @@ pieceWork-beyond place n h =
     ap streamWork count
 
 module _ (E : List ℕ → List ℕ) (v : List ℕ) where
-  -- within a block that one is begun
+  -- n bytes that end within a block begin that one
   begunBlock-one : (n : ℕ) → (n % 16 ≡ 0 → ⊥) → begunBlock E v n ≡ E (plus (clear v) (n / 16))
   unfolding begunBlock
   begunBlock-one n e = simp (ne-eqb (n % 16) 0 e)
 
-  -- n bytes from block i on: whole blocks
+  -- n bytes from block i on that are whole blocks
   pub begunBlock-whole : (i n : ℕ) → n % 16 ≡ 0 → replicate 16 0 ≡ begunBlock E v (16 * i + n)
   unfolding begunBlock
   begunBlock-whole i n e =
       let end : (16 * i + n) % 16 ≡ 0 = omega arith in
       simp (eq-eqb ((16 * i + n) % 16) 0 end)
 
-  -- n bytes from block i on: whole blocks and a short end, which begins block b
+  -- n bytes from block i on with a short end, which begins block b
   pub begunBlock-short : (i n : ℕ) {b : List ℕ} → (n % 16 ≡ 0 → ⊥) → b ≡ E (plus (clear v) (i + n / 16)) → b ≡ begunBlock E v (16 * i + n)
   begunBlock-short i n some e =
       let place : i + n / 16 ≡ (16 * i + n) / 16 = omega arith in
       e ∙ ap (λ (k : ℕ). E (plus (clear v) k)) place ∙ sym (begunBlock-one (16 * i + n) (λ z. some (omega arith)))
 
-  -- the block b, kept within a block only, is the begun one where it is that one there
+  -- to keep b where n bytes end within a block is to keep the begun one, if b is that block
   begunBlock-as : (n : ℕ) (b : List ℕ) → ((n % 16 ≡ 0 → ⊥) → b ≡ E (plus (clear v) (n / 16))) → cond (eqb (n % 16) 0) (replicate 16 0) b ≡ begunBlock E v n
   unfolding begunBlock
   begunBlock-as n b e = go (ℕ-discrete (n % 16) 0)
@@ -183,17 +183,19 @@ module _ (E : List ℕ → List ℕ) (v : List ℕ) where
   unfolding xorPiece
   length-xorPiece kept place s = length-xors s (drop (16 - leftOver place) (atHand E v kept place (length s)))
 
-  -- nothing but the kept block is at hand
+  -- for a piece that ends with the kept block at the latest nothing else is at hand
   atHand-within : (kept : List ℕ) (place n : ℕ) → n ≤ leftOver place → atHand E v kept place n ≡ kept
   unfolding atHand streamBlocks
   atHand-within kept place n h = ap (λ (m : ℕ). kept ++ streamBlocks E v (blocksBegun place) m) (newBlocks-none place n h) ∙ append-nil kept
 
+  -- such a piece is xored with the kept block alone
   pub xorPiece-within : (kept : List ℕ) (place : ℕ) (s : List ℕ) → length s ≤ leftOver place → xorPiece E v kept place s ≡ xors s (drop (place % 16) kept)
   unfolding xorPiece
   xorPiece-within kept place s h =
       ap (λ (l : List ℕ). xors s (drop (16 - leftOver place) l)) (atHand-within kept place (length s) h)
       ∙ from-place kept place s h
 
+  -- and that one stays, unless it is used up
   pub keptAfter-within : (kept : List ℕ) (place n : ℕ) → n ≤ leftOver place
       → keptAfter E v kept place n ≡ cond (eqb ((place + n) % 16) 0) (replicate 16 0) kept
   unfolding keptAfter
@@ -209,7 +211,7 @@ module _ (E : List ℕ → List ℕ) (sized : (b : List ℕ) → length (E b) �
       go true = refl
       go false = sized (plus (clear v) (n / 16))
 
-  -- what is left of the kept block is xored in first, then the key stream from the next block on
+  -- a piece that goes beyond the kept block: what is left of it, then the key stream from the next block on
   pub xorPiece-beyond : (kept : List ℕ) (place : ℕ) (s : List ℕ) → length kept ≡ 16 → leftOver place ≤ length s
       → xorPiece E v kept place s ≡ xors (take (leftOver place) s) (drop (place % 16) kept) ++ xorStream E v (place + leftOver place) (drop (leftOver place) s)
   unfolding xorPiece atHand
@@ -226,7 +228,7 @@ module _ (E : List ℕ → List ℕ) (sized : (b : List ℕ) → length (E b) �
       ∙ xors-append (take m s) (drop m s) (drop (16 - m) kept) (streamBlocks E v i n) (front ∙ sym left)
       ∙ ap₂ _++_ (from-place kept place (take m s) (omega arith)) rest
 
-  -- then the block is kept that the end begins
+  -- then the block is kept that the piece's end begins
   pub keptAfter-beyond : (kept : List ℕ) (place n : ℕ) → length kept ≡ 16 → leftOver place ≤ n → keptAfter E v kept place n ≡ begunBlock E v (place + n)
   unfolding keptAfter atHand streamBlocks
   keptAfter-beyond kept place n long h =
@@ -254,7 +256,7 @@ module _ (E : List ℕ → List ℕ) (sized : (b : List ℕ) → length (E b) �
       ∙ sym (xorStream-block E sized v i k (x ∷ s) (omega arith))
       ∙ ap (λ (p : ℕ). xorStream E v p (x ∷ s)) whole
 
-  -- with the block kept that its place begins, a piece is xored with the key stream from there on
+  -- a piece of any length, with the block kept that its place begins, is xored with the key stream from there on
   pub xorPiece-own : (place : ℕ) (s : List ℕ) → xorPiece E v (begunBlock E v place) place s ≡ xorStream E v place s
   xorPiece-own place s = go (decLe (leftOver place) (length s))
     where
@@ -268,7 +270,7 @@ module _ (E : List ℕ → List ℕ) (sized : (b : List ℕ) → length (E b) �
           ∙ ap (xorStream E v place) (take-append-drop m s)
       go (no h) = xorPiece-within E v (begunBlock E v place) place s (omega (arith, h)) ∙ begunBlock-own place s (omega (arith, h))
 
-  -- and the block is kept that the end begins
+  -- and the block is kept that its end begins
   pub keptAfter-own : (place n : ℕ) → keptAfter E v (begunBlock E v place) place n ≡ begunBlock E v (place + n)
   keptAfter-own place n = go (decLe (leftOver place) n)
     where

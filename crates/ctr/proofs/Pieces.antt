@@ -82,15 +82,15 @@ module _ (E : List ℕ → List ℕ) (sized : (b : List ℕ) → length (E b) �
   pub reached-none : Reached E v i s l at l 0
   reached-none = record { long = refl; bytes = xorStream-none E v l at (16 * i) (take (16 * 0) s) refl }
 
-  pub reached-more : {now next : List ℕ} (j : ℕ) → 16 * j + 16 ≤ length s → at + (16 * j + 16) ≤ length l → Reached E v i s l at now j → length next ≡ length now
-      → next ≡ put now (at + 16 * j) (xorStream E v (16 * (i + j)) (take (16 * j + 16 - 16 * j) (drop (16 * j) s))) → Reached E v i s l at next (j + 1)
-  reached-more {now} {next} j hs hl r same e =
+  pub reached-more : {now next : List ℕ} (j : ℕ) {p : ℕ} → 16 * j + 16 ≤ length s → at + (16 * j + 16) ≤ length l → p ≡ 16 * i + 16 * j → Reached E v i s l at now j
+      → length next ≡ length now → next ≡ put now (at + 16 * j) (xorStream E v p (take (16 * j + 16 - 16 * j) (drop (16 * j) s))) → Reached E v i s l at next (j + 1)
+  reached-more {now} {next} j {p} hs hl place r same e =
       let block : List ℕ = take (16 * j + 16 - 16 * j) (drop (16 * j) s) in
       record {
         long = same ∙ r .long;
         bytes =
             e
-            ∙ ap (λ (d : List ℕ). put d (at + 16 * j) (xorStream E v (16 * (i + j)) block)) (r .bytes)
-            ∙ xorStream-next E sized v l at (16 * i) (take (16 * j) s) block (length-take-le (16 * j) s (omega arith)) (omega arith) (omega arith)
+            ∙ ap (λ (d : List ℕ). put d (at + 16 * j) (xorStream E v p block)) (r .bytes)
+            ∙ xorStream-next E sized v l at (16 * i) (take (16 * j) s) block (length-take-le (16 * j) s (omega arith)) place (omega arith)
             ∙ ap (λ (t : List ℕ). put l at (xorStream E v (16 * i) t)) (front-block j s);
       }

@@ -165,6 +165,14 @@ outcome-with a w w′ e v = go a ∙ ap₂ (λ (o : Outcome) (k : ℕ). record {
     go (Ok n) = refl
     go (Refused r) = refl
 
+pub outcome-number : (a : Answer) (w w′ : ℕ) → outcomeOf a w .number ≡ outcomeOf a w′ .number
+outcome-number (Ok n) w w′ = refl
+outcome-number (Refused r) w w′ = refl
+
+pub outcome-work : (a : Answer) (w : ℕ) → outcomeOf a w .work ≡ w
+outcome-work (Ok n) w = refl
+outcome-work (Refused r) w = refl
+
 -- ---- keys under the cipher
 
 -- AES under a key is the cipher at its width under its round keys

@@ -3,7 +3,7 @@
 use mathlib.Core.Path.{_≡_, refl, ap, ap₂, sym, subst, _∙_}
 use mathlib.Core.Bool.{Bool, true, false, not, cond, _&&_, and-eq-true-iff}
 use mathlib.Core.List.{List, [], _∷_, _++_, append-assoc}
-use Prim.Native.Nat.{ℕ, suc, _+_, _-_, _*_, _/_, _%_, _≤_, _<_}
+use Prim.Native.Nat.{ℕ, suc, _+_, _-_, _*_, _/_, _%_, _≤_, _<_, min}
 use native.Mathlib.Numerals.{add-one}
 use native.Mathlib.Decide.{decLt, ℕ-discrete}
 use native.Mathlib.Omega.{arith}
@@ -11,29 +11,30 @@ use lib.Dec.{eqb, ltb}
 use lib.ListN.{length, getD, take, drop, replicate, length-drop, drop-of-length-le}
 use lib.Seq.{take-all, take-append-le, take-append-add, drop-append-le, drop-append-add, drop-cons, length-take-le, take-at, drop-at}
 use borrow.Author.Tests.{eqb-true, eq-eqb, ne-eqb, ltb-false, not-true, not-false}
-use Rattle.octets.specs.Octets.{put, part, same}
-use Rattle.octets.proofs.Strings.{part-to}
+use Rattle.octets.specs.Octets.{xors, put, part, same}
+use Rattle.octets.proofs.Strings.{part-to, length-xors, put-put}
 use Rattle.aes.specs.Aes.{isWidth}
-use Rattle.aes.proofs.Widths.{width}
+use Rattle.aes.proofs.Widths.{width, length-cipher}
 use Rattle.aes.specs.Cipher.{cipher}
-use Rattle.cmac.specs.Cmac.{chain}
+use Rattle.cmac.specs.Cmac.{zeros, chain}
 use Rattle.s2v.specs.S2v.{tailLength}
 use Rattle.s2v.proofs.Laws.{Tail, tail, tail-short, tail-long}
-use Rattle.ctr.proofs.Laws.{length-xorStream}
+use Rattle.ctr.specs.Counter.{keyStreamWork, xorStream, begunBlock, leftOver, pieceWork}
+use Rattle.ctr.proofs.Laws.{pieceWork-within, pieceWork-beyond, length-xorPiece, xorPiece-within, keptAfter-within, xorPiece-beyond, keptAfter-beyond}
 use Rattle.siv.specs.declared.Answer.{Answer}
 use Rattle.siv.specs.declared.Answer.the-variants.{Ok, Refused}
 use Rattle.siv.specs.declared.Refusal.the-variants.{Forged}
-use Rattle.siv.specs.Answer.{Outcome, Row, row, first, outcomeOf, withoutLength}
+use Rattle.siv.specs.Answer.{Outcome, Row, row, first, outcomeOf, success, withoutLength, forged}
 use Rattle.siv.specs.Calls.{limit}
-use Rattle.siv.proofs.Laws.{lacks, not-due, first-not, first-pass, first-stop, first-append}
+use Rattle.siv.proofs.Laws.{lacks, outcome-number, outcome-work, not-due, first-not, first-pass, first-stop, first-append}
 use Rattle.head.specs.declared.Head.{Head}
 use Rattle.head.specs.declared.Made.{Made}
 use Rattle.head.specs.Head.{MakeResult, DidMake, settleHead}
 use Rattle.head.proofs.Laws.{settle-made, settle-refused}
 use Rattle.stream.specs.declared.Step.{Step}
 use Rattle.stream.specs.declared.Stream.{Stream}
-use Rattle.stream.specs.State.{allZero, writtenLimit, fits, passedBlocks, tailOf, stateWith, added, ended, tagOfState}
-use Rattle.stream.specs.Steps.{StepResult, DidStep, refusedStep, settle, beginBy, tagRows, streamedAt, finishStep, addRows, turnRows, writeRows, feedRows, finishRows, finishTable}
+use Rattle.stream.specs.State.{allZero, writtenLimit, keptFits, fits, passedBlocks, leavingBlocks, tailOf, stateWith, added, ended, tagOfState, tagOfStateWork, streamedAt, keptAt}
+use Rattle.stream.specs.Steps.{StepResult, DidStep, refusedStep, settle, beginBy, tagRows, finishStep, addRows, turnRows, writeRows, feedRows, finishRows, finishTable}
 
 -- ---- parts of two joined strings
 
@@ -83,7 +84,8 @@ unfolding fits
 fit wanted s e =
     let judged =
     eqb (s .stage) wanted && isWidth (s .width) && not (ltb limit (s .total)) && not (ltb (writtenLimit wanted (s .total)) (s .written)) && eqb (s .«tail_len») (tailLength (s .total)) in
-    let t = and-eq-true-iff _ (eqb (s .«tail_len») (tailLength (s .total))) .0 (and-eq-true-iff judged _ .0 e .0) in
+    let k = and-eq-true-iff judged (keptFits wanted s) .0 (and-eq-true-iff (judged && keptFits wanted s) _ .0 e .0) in
+    let t = and-eq-true-iff _ (eqb (s .«tail_len») (tailLength (s .total))) .0 (k .0) in
     let b = and-eq-true-iff _ (not (ltb (writtenLimit wanted (s .total)) (s .written))) .0 (t .0) in
     let d = and-eq-true-iff _ (not (ltb limit (s .total))) .0 (b .0) in
     let f = and-eq-true-iff (eqb (s .stage) wanted) (isWidth (s .width)) .0 (d .0) in
@@ -104,8 +106,8 @@ module _ (test : Bool) (a b : StepResult) {step : Step} {last : List ℕ} where
   picked-else : test ≡ false → DidStep b step last → DidStep (cond test a b) step last
   picked-else e d = subst (λ (t : Bool). DidStep (cond t a b) step last) (sym e) d
 
-pub refused : (a : Answer) (n : ℕ) (done : StepResult) (s : Stream) (output : List ℕ) → (outcomeOf a .number ≡ 0 → ⊥) → outcomeOf a ≡ withoutLength n
-    → DidStep (settle n done s output) (record { answer = a; state = s }) output
+pub refused : (a : Answer) (n : ℕ) (done : StepResult) (s : Stream) (output : List ℕ) → (outcomeOf a 0 .number ≡ 0 → ⊥) → outcomeOf a 0 ≡ withoutLength n
+    → DidStep (settle n done s output) (record { answer = a; work = 0; state = s }) output
 refused a n done s output k e =
     picked-else (eqb n 0) _ _ (ne-eqb n 0 (λ z. k (ap (λ (o : Outcome). o .number) e ∙ z))) (record { outcome = e; state = refl; output = refl })
 
@@ -191,7 +193,7 @@ piece total n =
     record { count = omega arith; used = omega arith; left = b .short }
 
 -- the state that the code puts together is the one with the piece
-pub absorbed : (s : Stream) (text : List ℕ) {left n used : ℕ} {c rest : List ℕ} → left ≡ tailLength (s .total + length text) → n ≡ passedBlocks (s .total + length text) - passedBlocks (s .total)
+pub absorbed : (s : Stream) (text : List ℕ) {left n used : ℕ} {c rest : List ℕ} → left ≡ tailLength (s .total + length text) → n ≡ leavingBlocks s (length text)
     → used ≡ tailLength (s .total) → c ≡ chain (cipher (s .width) (s .«mac_keys»)) (s .chain) (take used (s .tail) ++ text) n
     → rest ≡ tailOf (drop (16 * n) (take used (s .tail) ++ text)) → stateWith s c (s .total + length text) left rest ≡ added s text
 unfolding added
@@ -202,11 +204,80 @@ absorbed s text {left} {n} {used} {c} {rest} t count u p q =
       q ∙ ap₂ (λ (h k : ℕ). tailOf (drop (16 * k) (take h (s .tail) ++ text))) u count,
     )
 
+-- ---- a piece of the key stream
+
+-- n bytes of a piece are xored with what the kept block has for them
+module _ (s : Stream) (long : length (s .kept) ≡ 16) (place : ℕ) (text l : List ℕ) (at n : ℕ) (few : n ≡ min (leftOver place) (length text)) where
+  F : List ℕ → List ℕ
+  F = cipher (s .width) (s .«ctr_keys»)
+
+  -- as the code has it: `&piece[..n]` and `&kept[place % 16..]`
+  abbrev pub fromKept : List ℕ
+  fromKept = xors (take n text) (take (16 - place % 16) (drop (place % 16) (s .kept)))
+
+  from-kept : fromKept ≡ xors (take n text) (drop (place % 16) (s .kept))
+  from-kept = ap (xors (take n text)) (take-all (16 - place % 16) (drop (place % 16) (s .kept)) (omega (arith, length-drop (place % 16) (s .kept))))
+
+  length-fromKept : length fromKept ≡ n
+  length-fromKept = length-xors (take n text) _ ∙ length-take-le n text (omega arith)
+
+  -- where these are all
+  module _ (all : n ≡ length text) where
+    pub streamed-within : {last : List ℕ} → last ≡ put l at fromKept → last ≡ put l at (streamedAt s place text)
+    unfolding streamedAt F
+    streamed-within e =
+        e
+        ∙ ap (put l at) (from-kept ∙ ap (λ (t : List ℕ). xors t (drop (place % 16) (s .kept))) (take-all n text (omega arith)) ∙ sym (xorPiece-within F (s .v) (s .kept) place text (omega arith)))
+
+    pub kept-within : cond (eqb ((place + n) % 16) 0) zeros (s .kept) ≡ keptAt s place (length text)
+    unfolding keptAt F
+    kept-within = ap (λ (m : ℕ). cond (eqb ((place + m) % 16) 0) zeros (s .kept)) all ∙ sym (keptAfter-within F (s .v) (s .kept) place (length text) (omega arith))
+
+    pub work-within : 0 ≡ pieceWork place (length text)
+    work-within = sym (pieceWork-within place (length text) (omega arith))
+
+  -- where more follow, from the next block on: `&piece[n..]`
+  module _ (more : n ≡ length text → ⊥) where
+    abbrev pub fromNew : List ℕ
+    fromNew = take (length text - n) (drop n text)
+
+    from-new : fromNew ≡ drop n text
+    from-new = take-all (length text - n) (drop n text) (omega (arith, length-drop n text))
+
+    used-up : n ≡ leftOver place
+    used-up = omega (arith, few, more)
+
+    pub streamed-beyond : at + length text ≤ length l → {wrote last : List ℕ} → wrote ≡ put l at fromKept
+        → last ≡ put wrote (at + n) (xorStream (cipher (s .width) (s .«ctr_keys»)) (s .v) (16 * ((place + n) / 16)) fromNew) → last ≡ put l at (streamedAt s place text)
+    unfolding streamedAt F
+    streamed-beyond room w e =
+        let next : 16 * ((place + n) / 16) ≡ place + n = omega (arith, used-up) in
+        let seam : at + n ≡ at + length fromKept = ap (λ (k : ℕ). at + k) (sym length-fromKept) in
+        let rest : List ℕ = xorStream F (s .v) (place + n) (drop n text) in
+        e
+        ∙ ap₂ (λ (x : List ℕ) (k : ℕ). put x (at + n) (xorStream F (s .v) k fromNew)) w next
+        ∙ ap₂ (λ (k : ℕ) (t : List ℕ). put (put l at fromKept) k (xorStream F (s .v) (place + n) t)) seam from-new
+        ∙ put-put l at fromKept rest (omega (arith, length-fromKept, few))
+        ∙ ap (λ (t : List ℕ). put l at (t ++ rest)) from-kept
+        ∙ ap (λ (k : ℕ). put l at (xors (take k text) (drop (place % 16) (s .kept)) ++ xorStream F (s .v) (place + k) (drop k text))) used-up
+        ∙ ap (put l at) (sym (xorPiece-beyond F (length-cipher _ _) (s .v) (s .kept) place text long (omega (arith, few, used-up))))
+
+    pub kept-beyond : begunBlock (cipher (s .width) (s .«ctr_keys»)) (s .v) (16 * ((place + n) / 16) + length fromNew) ≡ keptAt s place (length text)
+    unfolding keptAt F
+    kept-beyond =
+        let end : 16 * ((place + n) / 16) + length fromNew ≡ place + length text = omega (arith, used-up, few, ap length from-new, length-drop n text) in
+        ap (begunBlock F (s .v)) end ∙ sym (keptAfter-beyond F (length-cipher _ _) (s .v) (s .kept) place (length text) long (omega (arith, few, used-up)))
+
+    pub work-beyond : keyStreamWork (length fromNew) ≡ pieceWork place (length text)
+    work-beyond =
+        let count : length fromNew ≡ length text - leftOver place = omega (arith, used-up, ap length from-new, length-drop n text) in
+        ap keyStreamWork count ∙ sym (pieceWork-beyond place (length text) (omega (arith, few, used-up)))
+
 -- ---- feed and finish
 
 pub length-streamedAt : (s : Stream) (place : ℕ) (text : List ℕ) → length (streamedAt s place text) ≡ length text
 unfolding streamedAt
-length-streamedAt s place text = length-xorStream (cipher (s .width) (s .«ctr_keys»)) (s .v) place text
+length-streamedAt s place text = length-xorPiece (cipher (s .width) (s .«ctr_keys»)) (s .v) (s .kept) place text
 
 -- what was written to a slice is read from there
 pub read-back : (l : List ℕ) (at n : ℕ) (p : List ℕ) {last : List ℕ} → last ≡ put l at p → length p ≡ n → at + n ≤ length l → take (at + n - at) (drop at last) ≡ p
@@ -228,8 +299,8 @@ module _ (s : Stream) (output : List ℕ) where
   number : ℕ
   number = first (finishTable s output)
 
-  pub finish-refused : (a : Answer) → (outcomeOf a .number ≡ 0 → ⊥) → outcomeOf a ≡ withoutLength (first (finishRows s (length output)))
-      → DidStep (finishStep s output) (record { answer = a; state = s }) output
+  pub finish-refused : (a : Answer) → (outcomeOf a 0 .number ≡ 0 → ⊥) → outcomeOf a 0 ≡ withoutLength (first (finishRows s (length output)))
+      → DidStep (finishStep s output) (record { answer = a; work = 0; state = s }) output
   unfolding finishStep judged forgery number
   finish-refused a k e =
       let due : first judged ≡ 0 → ⊥ = λ z. k (ap (λ (o : Outcome). o .number) e ∙ z) in
@@ -242,69 +313,72 @@ module _ (s : Stream) (output : List ℕ) where
     unfolding judged forgery number
     by-tag = first-pass judged forgery refl none
 
-    pub finish-done : same (tagOfState s) (s .v) ≡ true → DidStep (finishStep s output) (record { answer = Ok (s .total); state = state }) output
+    pub finish-done : (w : ℕ) → same (tagOfState s) (s .v) ≡ true → w ≡ tagOfStateWork s → DidStep (finishStep s output) (record { answer = Ok (s .total); work = w; state = state }) output
     unfolding finishStep number
-    finish-done g =
+    finish-done w g e =
         let zero : number ≡ 0 = by-tag ∙ ap (λ (t : Bool). cond (not t) 8 0) g in
-        record { outcome = simp zero; state = simp zero ends; output = simp zero }
+        record { outcome = simp zero (ap (success (s .total)) e); state = simp zero ends; output = simp zero }
 
-    pub finish-forged : (last : List ℕ) → same (tagOfState s) (s .v) ≡ false → last ≡ put output 0 (replicate (s .total) 0)
-        → DidStep (finishStep s output) (record { answer = Refused Forged; state = state }) last
+    pub finish-forged : (w : ℕ) (last : List ℕ) → same (tagOfState s) (s .v) ≡ false → w ≡ tagOfStateWork s → last ≡ put output 0 (replicate (s .total) 0)
+        → DidStep (finishStep s output) (record { answer = Refused Forged; work = w; state = state }) last
     unfolding finishStep number
-    finish-forged last g p =
+    finish-forged w last g e p =
         let eight : number ≡ 8 = by-tag ∙ ap (λ (t : Bool). cond (not t) 8 0) g in
-        record { outcome = simp eight; state = simp eight ends; output = simp eight p }
+        record { outcome = simp eight (ap forged e); state = simp eight ends; output = simp eight p }
 
 -- ---- begin
 
-pub begin-refused : (a : Answer) (n : ℕ) (result : StepResult) {state : Stream} → (outcomeOf a .number ≡ 0 → ⊥) → outcomeOf a ≡ withoutLength n → state ≡ ended
-    → DidStep (settle n result ended []) (record { answer = a; state = state }) []
+pub begin-refused : (a : Answer) (n : ℕ) (result : StepResult) {state : Stream} → (outcomeOf a 0 .number ≡ 0 → ⊥) → outcomeOf a 0 ≡ withoutLength n → state ≡ ended
+    → DidStep (settle n result ended []) (record { answer = a; work = 0; state = state }) []
 begin-refused a n result {state} k e ends =
-    subst (λ (s : Stream). DidStep (settle n result ended []) (record { answer = a; state = s }) []) (sym ends) (refused a n result ended [] k e)
+    subst (λ (s : Stream). DidStep (settle n result ended []) (record { answer = a; work = 0; state = s }) []) (sym ends) (refused a n result ended [] k e)
 
--- a begin with what making a head gave is the begin with the head and its rows' number
-begun-made : (n : ℕ) (h : Head) (made : Made) (stage : ℕ) (v : List ℕ) → DidMake (settleHead n h) made
-    → beginBy (outcomeOf (made .answer) .number) (made .head) stage v ≡ beginBy n h stage v
-begun-made n h made stage v d = go (ℕ-discrete n 0)
+-- a begin with what making a head gave is the begin with the head, its work and its rows' number
+begun-made : (n w : ℕ) (h : Head) (made : Made) (stage : ℕ) (v : List ℕ) → DidMake (settleHead n w h) made
+    → beginBy (outcomeOf (made .answer) 0 .number) (made .work) (made .head) stage v ≡ beginBy n w h stage v
+begun-made n w h made stage v d = go (ℕ-discrete n 0)
   where
     -- by what the head settles to
-    by : (r : MakeResult) → settleHead n h ≡ r → beginBy (outcomeOf (made .answer) .number) (made .head) stage v ≡ beginBy (r .outcome .number) (r .head) stage v
+    by : (r : MakeResult) → settleHead n w h ≡ r
+        → beginBy (outcomeOf (made .answer) 0 .number) (made .work) (made .head) stage v ≡ beginBy (r .outcome .number) (r .outcome .work) (r .head) stage v
     by r e =
-        ap₂ (λ (m : ℕ) (g : Head). beginBy m g stage v) (ap (λ (o : Outcome). o .number) (d .outcome) ∙ ap (λ (x : MakeResult). x .outcome .number) e)
-        (d .head ∙ ap (λ (x : MakeResult). x .head) e)
+        let outcome : outcomeOf (made .answer) (made .work) ≡ r .outcome = d .outcome ∙ ap (λ (x : MakeResult). x .outcome) e in
+        ap₂ (λ (m k : ℕ). beginBy m k (made .head) stage v) (outcome-number (made .answer) 0 (made .work) ∙ ap (λ (o : Outcome). o .number) outcome)
+        (sym (outcome-work (made .answer) (made .work)) ∙ ap (λ (o : Outcome). o .work) outcome)
+        ∙ ap (λ (g : Head). beginBy (r .outcome .number) (r .outcome .work) g stage v) (d .head ∙ ap (λ (x : MakeResult). x .head) e)
 
-    go : Dec (n ≡ 0) → beginBy (outcomeOf (made .answer) .number) (made .head) stage v ≡ beginBy n h stage v
-    go (yes z) = by _ (settle-made n h z) ∙ ap (λ (m : ℕ). beginBy m h stage v) (sym z)
-    go (no z) = by _ (settle-refused n h z) ∙ simp (ne-eqb n 0 z)
+    go : Dec (n ≡ 0) → beginBy (outcomeOf (made .answer) 0 .number) (made .work) (made .head) stage v ≡ beginBy n w h stage v
+    go (yes z) = by _ (settle-made n w h z) ∙ ap (λ (m : ℕ). beginBy m w h stage v) (sym z)
+    go (no z) = by _ (settle-refused n w h z) ∙ simp (ne-eqb n 0 z)
 
-pub begins : (n : ℕ) (h : Head) (made : Made) (stage : ℕ) (v : List ℕ) {step : Step} → DidMake (settleHead n h) made
-    → DidStep (beginBy (outcomeOf (made .answer) .number) (made .head) stage v) step [] → DidStep (beginBy n h stage v) step []
-begins n h made stage v {step} m d = subst (λ (r : StepResult). DidStep r step []) (begun-made n h made stage v m) d
+pub begins : (n w : ℕ) (h : Head) (made : Made) (stage : ℕ) (v : List ℕ) {step : Step} → DidMake (settleHead n w h) made
+    → DidStep (beginBy (outcomeOf (made .answer) 0 .number) (made .work) (made .head) stage v) step [] → DidStep (beginBy n w h stage v) step []
+begins n w h made stage v {step} m d = subst (λ (r : StepResult). DidStep r step []) (begun-made n w h made stage v m) d
 
 -- ---- an opener's begin, whose tag is judged last
 
-module _ (rows : List Row) (present : lacks 0 rows ≡ true) (h : Head) (tag : List ℕ) where
+module _ (rows : List Row) (present : lacks 0 rows ≡ true) (w : ℕ) (h : Head) (tag : List ℕ) where
   by-length : (t : Bool) → eqb (length tag) 16 ≡ t → first (rows ++ tagRows (length tag)) ≡ cond (eqb (first rows) 0) (cond (not t) 5 0) (first rows)
   by-length t e = first-append rows (tagRows (length tag)) present ∙ ap (λ (u : Bool). cond (eqb (first rows) 0) (cond (not u) 5 0) (first rows)) e
 
   -- a tag of 16 bytes leaves the number to the rows before it
-  pub begins-tagged : (made : Made) (v : List ℕ) {step : Step} → length tag ≡ 16 → v ≡ part tag 0 16 → DidMake (settleHead (first rows) h) made
-      → DidStep (beginBy (outcomeOf (made .answer) .number) (made .head) 3 v) step [] → DidStep (beginBy (first (rows ++ tagRows (length tag))) h 3 tag) step []
+  pub begins-tagged : (made : Made) (v : List ℕ) {step : Step} → length tag ≡ 16 → v ≡ part tag 0 16 → DidMake (settleHead (first rows) w h) made
+      → DidStep (beginBy (outcomeOf (made .answer) 0 .number) (made .work) (made .head) 3 v) step [] → DidStep (beginBy (first (rows ++ tagRows (length tag))) w h 3 tag) step []
   begins-tagged made v {step} e p m d =
       let whole : part tag 0 16 ≡ tag = take-all 16 tag (omega arith) in
-      subst (λ (r : StepResult). DidStep r step []) (ap₂ (λ (n : ℕ) (w : List ℕ). beginBy n h 3 w) (sym (by-length true (eq-eqb (length tag) 16 e) ∙ kept (eqb (first rows) 0) refl)) (p ∙ whole))
-      (begins (first rows) h made 3 v m d)
+      subst (λ (r : StepResult). DidStep r step []) (ap₂ (λ (n : ℕ) (x : List ℕ). beginBy n w h 3 x) (sym (by-length true (eq-eqb (length tag) 16 e) ∙ kept (eqb (first rows) 0) refl)) (p ∙ whole))
+      (begins (first rows) w h made 3 v m d)
     where
       kept : (t : Bool) → eqb (first rows) 0 ≡ t → cond t 0 (first rows) ≡ first rows
       kept true z = sym (eqb-true (first rows) 0 z)
       kept false z = refl
 
   -- any other is refused, with 5 where no row before it is due
-  pub begins-untagged : (before : Answer) {step : Step} → eqb (length tag) 16 ≡ false → outcomeOf before ≡ withoutLength (first rows)
-      → DidStep (refusedStep (cond (eqb (outcomeOf before .number) 0) 5 (outcomeOf before .number)) ended []) step []
-      → DidStep (beginBy (first (rows ++ tagRows (length tag))) h 3 tag) step []
+  pub begins-untagged : (before : Answer) {step : Step} → eqb (length tag) 16 ≡ false → outcomeOf before 0 ≡ withoutLength (first rows)
+      → DidStep (refusedStep (cond (eqb (outcomeOf before 0 .number) 0) 5 (outcomeOf before 0 .number)) ended []) step []
+      → DidStep (beginBy (first (rows ++ tagRows (length tag))) w h 3 tag) step []
   begins-untagged before {step} e o d =
-      let number : outcomeOf before .number ≡ first rows = ap (λ (x : Outcome). x .number) o in
+      let number : outcomeOf before 0 .number ≡ first rows = ap (λ (x : Outcome). x .number) o in
       picked-else (eqb (first (rows ++ tagRows (length tag))) 0) _ _ (ap (λ (m : ℕ). eqb m 0) (by-length false e) ∙ due (eqb (first rows) 0) refl)
       (subst (λ (m : ℕ). DidStep (refusedStep m ended []) step []) (ap (λ (m : ℕ). cond (eqb m 0) 5 m) number ∙ sym (by-length false e)) d)
     where

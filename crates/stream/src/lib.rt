@@ -190,10 +190,13 @@ impl Stream {
         let end = work::stream_at(self, at, piece, output, at);
         let kept = end.block;
         self.kept = kept;
-        let mut step = tail::absorb(self, &output[at..at + n]);
-        step.answer = Answer::Ok(n);
-        step.work = end.work + step.work;
-        step
+        let added = tail::absorb(self, &output[at..at + n]);
+        let state = added.state;
+        Step {
+            answer: Answer::Ok(n),
+            work: end.work + added.work,
+            state,
+        }
     }
 
     // Gives the verdict on all that was fed: the plaintext in output is approved, or it is wiped.

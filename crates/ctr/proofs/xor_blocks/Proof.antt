@@ -1,4 +1,4 @@
--- `ctr::xor_blocks` meets its contract: after j turns the first j blocks are written.
+-- `ctr::xor_blocks` meets its contract: after j turns the first j blocks are written, and counted.
 -- Assumes nothing.
 use mathlib.Core.Path.{_≡_, refl}
 use Prim.Native.Nat.{_+_, _-_, _≤_}
@@ -74,7 +74,7 @@ loop-again c =
     let piece = called .xor-piece .ensures in
     let j = head .loop .j in (
       omega arith,
-      reached-more _ (length-cipher (args .width) (args .keys .now)) _ _ _ _ _ j (omega arith) (omega arith) (head .loop .inv .1) (omega arith) (piece .1),
+      reached-more _ (length-cipher (args .width) (args .keys .now)) _ _ _ _ _ j (omega arith) (omega arith) (omega arith) (head .loop .inv .1) (omega arith) (piece .1),
       omega (arith, piece .0 .work, head .loop .inv .2, stream-work j, stream-work (j + 1)),
     )
 

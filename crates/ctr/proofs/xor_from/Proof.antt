@@ -29,7 +29,7 @@ returns c =
     let src = args .src .now in
     let whole = wrote .xor-blocks .ensures in (
       record {
-        block = begunBlock-whole _ _ _ _ none;
+        block = begunBlock-whole (cipher (args .width) (args .keys .now)) (args .v) (args .i) (length src) (omega (arith, none));
         work = omega (arith, none, whole .0 ∙ stream-work (length src / 16), key-stream-work (length src));
       },
       xorStream-all _ _ _ _ _ src (16 * (length src / 16)) (omega (arith, none)) (whole .1),
@@ -80,7 +80,7 @@ returns-2 c =
     let end = called .xor-piece .ensures in
     let text = xorStream-joined E (length-cipher _ _) _ _ _ (16 * args .i) src (16 * (length src / 16)) (omega arith) (omega arith) (omega arith) (whole .1) (end .1) in (
       record {
-        block = begunBlock-short E _ _ _ some (end .0 .block);
+        block = begunBlock-short E (args .v) (args .i) (length src) (λ z. some (omega (arith, z))) (end .0 .block);
         work = omega (arith, some, end .0 .work, whole .0 ∙ stream-work (length src / 16), key-stream-work (length src));
       },
       text,

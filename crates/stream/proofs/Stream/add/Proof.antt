@@ -1,6 +1,6 @@
 -- `stream::Stream::add` meets its contract.
 -- Assumes nothing.
-use mathlib.Core.Path.{_≡_, refl}
+use mathlib.Core.Path.{_≡_}
 use lib.ListN.{length}
 use borrow.Author.Needs.{needs}
 use Rattle.siv.specs.Answer.{first}
@@ -33,7 +33,7 @@ absorb-requires c κs =
 
 returns-2 : tie.Need-returns-2
 unfolding addStep
-returns-2 c = done _ _ _ _ (none (c .before .before)) (record { outcome = refl; state = c .absorb .ensures; output = refl })
+returns-2 c = done _ _ _ _ (none (c .before .before)) (c .absorb .ensures)
 
 pub add-spec : {M : Type 1} → statement M
 add-spec =

@@ -6,7 +6,7 @@ use lib.ListN.{length}
 use borrow.Author.Needs.{needs}
 use borrow.Author.Tests.{eqb-true, not-true, not-false}
 use Rattle.header.specs.Header.{strings}
-use Rattle.head.specs.Head.{restRows, extended, extendHead}
+use Rattle.head.specs.Head.{restRows, extended, extendedWork, extendHead}
 use Rattle.stream.specs.Steps.{beginOpenerFrom}
 use Rattle.stream.proofs.Laws.{begins-tagged, begins-untagged}
 use Rattle.stream.proofs.Stream.begin_opener_from.Statement.{statement}
@@ -25,7 +25,7 @@ returns : tie.Need-returns
 unfolding beginOpenerFrom
 returns c =
     let args = c .before .before .before .before .before .before .before .args in
-    begins-untagged (restRows (args .head) (args .lens .now) (length (args .rest .now))) refl (extended (args .head) (strings (args .rest .now) (args .lens .now))) (args .tag .now) (c .before .judge-rest .result) (sym (c .before .before .before .is-tag .ensures) ∙ not-true _ (c .before .before .if1 .taken)) (c .before .judge-rest .ensures) (c .untagged .ensures)
+    begins-untagged (restRows (args .head) (args .lens .now) (length (args .rest .now))) refl (extendedWork (strings (args .rest .now) (args .lens .now))) (extended (args .head) (strings (args .rest .now) (args .lens .now))) (args .tag .now) (c .before .judge-rest .result) (sym (c .before .before .before .is-tag .ensures) ∙ not-true _ (c .before .before .if1 .taken)) (c .before .judge-rest .ensures) (c .untagged .ensures)
 
 tagged : (c : tie.Else1) → length (c .before .before .before .before .before .args .tag .now) ≡ 16
 tagged c = eqb-true _ 16 (sym (c .before .is-tag .ensures) ∙ not-false _ (c .if1 .left))
@@ -43,7 +43,7 @@ returns-2 : tie.Need-returns-2
 unfolding beginOpenerFrom extendHead
 returns-2 c =
     let args = c .before .before .before .before .before .before .before .before .args in
-    begins-tagged (restRows (args .head) (args .lens .now) (length (args .rest .now))) refl (extended (args .head) (strings (args .rest .now) (args .lens .now))) (args .tag .now) (c .before .before .extend .result) (c .before .load .result) (tagged (c .before .before .before)) (c .before .load .ensures) (c .before .before .extend .ensures) (c .begun .ensures)
+    begins-tagged (restRows (args .head) (args .lens .now) (length (args .rest .now))) refl (extendedWork (strings (args .rest .now) (args .lens .now))) (extended (args .head) (strings (args .rest .now) (args .lens .now))) (args .tag .now) (c .before .before .extend .result) (c .before .load .result) (tagged (c .before .before .before)) (c .before .load .ensures) (c .before .before .extend .ensures) (c .begun .ensures)
 
 pub begin-opener-from-spec : {M : Type 1} → statement M
 begin-opener-from-spec =

@@ -5,7 +5,7 @@ use borrow.Author.Needs.{needs}
 use Rattle.header.specs.Header.{strings}
 use Rattle.siv.specs.Answer.{first}
 use Rattle.siv.specs.Calls.{headerRows}
-use Rattle.head.specs.Head.{headOf, makeHead}
+use Rattle.head.specs.Head.{headOf, headOfWork, makeHead}
 use Rattle.stream.specs.Steps.{beginSealer}
 use Rattle.stream.proofs.Laws.{begins}
 use Rattle.stream.proofs.Stream.begin_sealer.Statement.{statement}
@@ -21,7 +21,7 @@ returns : tie.Need-returns
 unfolding beginSealer makeHead
 returns c =
     let args = c .before .before .before .before .before .args in
-    begins (first (headerRows (length (args .key .now)) (args .lens .now) (length (args .header .now)))) (headOf (args .key .now) (strings (args .header .now) (args .lens .now))) (c .before .make .result) _ _ (c .before .make .ensures) (c .begun .ensures)
+    begins (first (headerRows (length (args .key .now)) (args .lens .now) (length (args .header .now)))) (headOfWork (strings (args .header .now) (args .lens .now))) (headOf (args .key .now) (strings (args .header .now) (args .lens .now))) (c .before .make .result) _ _ (c .before .make .ensures) (c .begun .ensures)
 
 pub begin-sealer-spec : {M : Type 1} → statement M
 begin-sealer-spec = tie.close (tie.spec make-requires begun-requires returns)

@@ -4,7 +4,7 @@ use lib.ListN.{length}
 use borrow.Author.Needs.{needs}
 use Rattle.header.specs.Header.{strings}
 use Rattle.siv.specs.Answer.{first}
-use Rattle.head.specs.Head.{restRows, extended, extendHead}
+use Rattle.head.specs.Head.{restRows, extended, extendedWork, extendHead}
 use Rattle.stream.specs.Steps.{beginSealerFrom}
 use Rattle.stream.proofs.Laws.{begins}
 use Rattle.stream.proofs.Stream.begin_sealer_from.Statement.{statement}
@@ -20,7 +20,7 @@ returns : tie.Need-returns
 unfolding beginSealerFrom extendHead
 returns c =
     let args = c .before .before .before .before .args in
-    begins (first (restRows (args .head) (args .lens .now) (length (args .rest .now)))) (extended (args .head) (strings (args .rest .now) (args .lens .now))) (c .before .extend .result) _ _ (c .before .extend .ensures) (c .begun .ensures)
+    begins (first (restRows (args .head) (args .lens .now) (length (args .rest .now)))) (extendedWork (strings (args .rest .now) (args .lens .now))) (extended (args .head) (strings (args .rest .now) (args .lens .now))) (c .before .extend .result) _ _ (c .before .extend .ensures) (c .begun .ensures)
 
 pub begin-sealer-from-spec : {M : Type 1} → statement M
 begin-sealer-from-spec = tie.close (tie.spec extend-requires begun-requires returns)

@@ -1,14 +1,20 @@
 -- `stream::Stream::feed` meets its contract.
 -- Assumes nothing.
-use mathlib.Core.Path.{_≡_, refl, ap, _∙_}
+use mathlib.Core.Path.{_≡_, refl, ap, ap₂, sym, _∙_}
+use mathlib.Core.List.{List, []}
+use Prim.Native.Nat.{ℕ, _+_}
 use native.Mathlib.Omega.{arith}
 use lib.ListN.{length, length-take, length-drop}
 use borrow.Author.Needs.{needs}
-use Rattle.siv.specs.Answer.{first}
-use Rattle.siv.proofs.Laws.{told-refused, passed}
-use Rattle.stream.specs.State.{added}
-use Rattle.stream.specs.Steps.{streamedAt, feedRows, feedStep}
-use Rattle.stream.proofs.Laws.{refused, done, feed-admits, length-streamedAt, read-back}
+use Rattle.cmac.specs.Cmac.{chainWork}
+use Rattle.cmac.proofs.Laws.{chain-work}
+use Rattle.ctr.specs.Counter.{newBlocks, pieceWork}
+use Rattle.ctr.proofs.Laws.{stream-work}
+use Rattle.siv.specs.Answer.{Outcome, success, first}
+use Rattle.siv.proofs.Laws.{told-refused, passed, outcome-work}
+use Rattle.stream.specs.State.{leavingBlocks, added, addedWork, streamedAt, streamedWith}
+use Rattle.stream.specs.Steps.{DidStep, doneStep, feedRows, deciphered, feedStep}
+use Rattle.stream.proofs.Laws.{refused, done, feed-admits, cut, length-streamedAt, read-back}
 use Rattle.stream.proofs.Stream.feed.Statement.{statement}
 use Rattle.stream.proofs.Stream.feed.Tie as tie
 
@@ -33,11 +39,11 @@ enum-told-2 c = search needs
 stream-at-requires : tie.Need-stream-at-requires
 stream-at-requires c κs =
     let a = feed-admits _ _ _ (none (c .before .before)) in
-    (a .0 .width, omega (arith, a .2))
+    (a .0 .width, a .1, omega (arith, a .2))
 
 add-absorb : tie.Need-add-absorb
 add-absorb c =
-    let a = feed-admits _ _ _ (none (c .before .before .before .before .before)) in
+    let a = feed-admits _ _ _ (none (c .before .before .before .before .before .before)) in
     omega (arith, a .1)
 
 sub-absorb : tie.Need-sub-absorb
@@ -48,13 +54,52 @@ part-absorb-start c = search needs
 
 part-absorb-end : tie.Need-part-absorb-end
 part-absorb-end c =
-    let a = feed-admits _ _ _ (none (c .before .before .before .before .before .before)) in
-    omega (arith, a .2, c .before .before .before .stream-at .kept .1 .1 .1 .0)
+    let a = feed-admits _ _ _ (none (c .before .before .before .before .before .before .before)) in
+    omega (arith, a .2, c .before .before .before .before .stream-at .kept .1 .1 .1 .0)
 
 absorb-requires : tie.Need-absorb-requires
 absorb-requires c κs =
-    let a = feed-admits _ _ _ (none (c .before .before .before .before .before .before .before)) in
+    let a = feed-admits _ _ _ (none (c .before .before .before .before .before .before .before .before)) in
     (a .0 .width, a .0 .tailLen, simp (length-take, length-drop) (omega (arith, a .1)))
+
+-- the plaintext is added to the state that keeps the block, with the work for as many bytes
+joined : (c : tie.After-absorb)
+    → let args = c .before .before .before .before .before .before .before .before .before .before .before .before .before .args in
+    let s = args .self in
+    let n = length (args .piece .now) in
+    DidStep (doneStep 0 (addedWork s n) (added (deciphered s n) (streamedAt s (s .total) (args .piece .now))) []) (c .absorb .result) []
+unfolding addedWork
+joined c =
+    let wrote = c .before .before .before .before .before .before in
+    let args = wrote .before .before .before .before .before .before .before .args in
+    let s = args .self in
+    let text = args .piece .now in
+    let n = length text in
+    let p = streamedAt s (s .total) text in
+    let a = feed-admits s n (length (args .output .now)) (none (wrote .before .before .before)) in
+    let end = wrote .stream-at .ensures in
+    let fed = read-back (args .output .now) (s .total) n p (end .1) (length-streamedAt s (s .total) text) (a .2) in
+    let long = ap length fed ∙ length-streamedAt s (s .total) text in
+    let step = c .absorb .ensures in
+    record {
+      outcome = step .outcome ∙ ap (λ (m : ℕ). success 0 (chainWork (leavingBlocks s m))) long;
+      state = step .state ∙ ap₂ (λ (k t : List ℕ). added (streamedWith s k (s .written)) t) (end .0 .block) fed;
+      output = refl;
+    }
+
+work-of : (c : tie.After-absorb)
+    → let args = c .before .before .before .before .before .before .before .before .before .before .before .before .before .args in
+    c .absorb .result .work ≡ addedWork (args .self) (length (args .piece .now))
+work-of c = sym (outcome-work (c .absorb .result .answer) (c .absorb .result .work)) ∙ ap (λ (o : Outcome). o .work) (joined c .outcome)
+
+add-t11 : tie.Need-add-t11
+unfolding pieceWork addedWork
+add-t11 c =
+    let absorbed = c .before .before .before in
+    let wrote = absorbed .before .before .before .before .before .before in
+    let s = wrote .before .before .before .before .before .before .before .args .self in
+    let n = length (wrote .before .before .before .before .before .before .before .args .piece .now) in
+    omega (arith, wrote .stream-at .ensures .0 .work ∙ stream-work (newBlocks (s .total) n), work-of absorbed ∙ chain-work (leavingBlocks s n), cut (s .total + n), feed-admits _ _ _ (none (wrote .before .before .before)) .1)
 
 same-length : tie.Need-same-length
 same-length c = search needs
@@ -62,13 +107,12 @@ same-length c = search needs
 returns-2 : tie.Need-returns-2
 unfolding feedStep
 returns-2 c =
-    let args = c .before .before .before .before .before .before .before .before .before .before .before .before .args in
-    let s = args .self in
-    let text = args .piece .now in
-    let a = feed-admits s (length text) (length (args .output .now)) (none (c .before .before .before .before .before .before .before .before)) in
-    let wrote = c .before .before .before .before .before .stream-at .ensures in
-    let fed = read-back (args .output .now) (s .total) (length text) (streamedAt s (s .total) text) wrote (length-streamedAt s (s .total) text) (a .2) in
-    done _ _ _ _ (none (c .before .before .before .before .before .before .before .before)) (record { outcome = refl; state = c .absorb .ensures ∙ ap (added s) fed; output = wrote })
+    let absorbed = c .before .before .before in
+    let wrote = absorbed .before .before .before .before .before .before in
+    let n = length (wrote .before .before .before .before .before .before .before .args .piece .now) in
+    let end = wrote .stream-at .ensures in
+    done _ _ _ _ (none (wrote .before .before .before))
+    (record { outcome = ap (success n) (ap₂ _+_ (end .0 .work) (work-of absorbed)); state = joined absorbed .state; output = end .1 })
 
 pub feed-spec : {M : Type 1} → statement M
 feed-spec =
@@ -84,5 +128,6 @@ feed-spec =
     part-absorb-start
     part-absorb-end
     absorb-requires
+    add-t11
     same-length
     returns-2)

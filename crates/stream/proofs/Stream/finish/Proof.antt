@@ -9,6 +9,7 @@ use borrow.Author.Needs.{needs}
 use Rattle.octets.specs.Octets.{same}
 use Rattle.siv.specs.Answer.{first}
 use Rattle.siv.proofs.Laws.{told-refused, passed}
+use Rattle.stream.specs.State.{tagOfState}
 use Rattle.stream.specs.Steps.{finishRows}
 use Rattle.stream.proofs.Laws.{finish-admits, finish-refused, finish-done, finish-forged}
 use Rattle.stream.proofs.Stream.finish.Statement.{statement}
@@ -40,14 +41,23 @@ same-block-requires c κs = search needs
 ended-requires : tie.Need-ended-requires
 ended-requires c κs = search needs
 
+-- whether the recomputed tag is the given one
+agrees : (c : tie.After-same-block)
+    → let s = c .before .before .before .before .before .before .before .before .args .self in
+    same (tagOfState s) (s .v) ≡ c .same-block .result
+agrees c =
+    let s = c .before .before .before .before .before .before .before .before .args .self in
+    sym (ap (λ (t : List ℕ). same t (s .v)) (c .before .before .tag-of-state .ensures .block)) ∙ sym (c .same-block .ensures)
+
 returns-2 : tie.Need-returns-2
 returns-2 c =
-    let s = c .before .before .before .before .before .before .before .before .before .args .self in
-    let agrees = sym (ap (λ (t : List ℕ). same t (s .v)) (c .before .before .before .tag-of-state .ensures)) ∙ sym (c .before .before .same-block .ensures) ∙ c .before .if1 .taken in
-    finish-done s _ (none (c .before .before .before .before .before .before)) (c .ended .ensures) agrees
+    let told = c .before .before in
+    finish-done _ _ (none (told .before .before .before .before .before)) (c .ended .ensures) _ (agrees told ∙ c .before .if1 .taken) (told .before .before .tag-of-state .ensures .work)
 
 zero-at-requires : tie.Need-zero-at-requires
-zero-at-requires c κs = omega (arith, finish-admits (c .before .before .before .before .before .before .before .before .before .args .self) (length (c .before .before .before .before .before .before .before .before .before .args .output .now)) (none (c .before .before .before .before .before .before)) .1)
+zero-at-requires c κs =
+    let start = c .before .before .before .before .before .before .before .before .before .before in
+    omega (arith, finish-admits (start .args .self) (length (start .args .output .now)) (none (c .before .before .before .before .before .before .before)) .1)
 
 ended-requires-2 : tie.Need-ended-requires-2
 ended-requires-2 c κs = search needs
@@ -57,9 +67,8 @@ same-length c = search needs
 
 returns-3 : tie.Need-returns-3
 returns-3 c =
-    let s = c .before .before .before .before .before .before .before .before .before .before .before .before .before .args .self in
-    let differs = sym (ap (λ (t : List ℕ). same t (s .v)) (c .before .before .before .before .before .before .before .tag-of-state .ensures)) ∙ sym (c .before .before .before .before .before .before .same-block .ensures) ∙ c .before .before .before .before .before .if1 .left in
-    finish-forged s _ (none (c .before .before .before .before .before .before .before .before .before .before)) (c .ended2 .ensures) _ differs (c .before .before .before .zero-at .ensures)
+    let told = c .before .before .before .before .before .before in
+    finish-forged _ _ (none (told .before .before .before .before .before)) (c .ended2 .ensures) _ _ (agrees told ∙ c .before .before .before .before .before .if1 .left) (told .before .before .tag-of-state .ensures .work) (c .before .before .before .zero-at .ensures)
 
 pub finish-spec : {M : Type 1} → statement M
 finish-spec =

@@ -1,10 +1,10 @@
 -- `stream::Stream::turn` meets its contract.
 -- Assumes nothing.
-use mathlib.Core.Path.{_≡_, refl, ap, _∙_}
+use mathlib.Core.Path.{_≡_, ap, _∙_}
 use lib.ListN.{length}
 use borrow.Author.Needs.{needs}
 use Rattle.octets.specs.Octets.{put}
-use Rattle.siv.specs.Answer.{first}
+use Rattle.siv.specs.Answer.{success, first}
 use Rattle.siv.proofs.Laws.{told-refused, passed}
 use Rattle.stream.specs.Steps.{turnRows, turned, turnStep}
 use Rattle.stream.proofs.Laws.{refused, done, turn-admits}
@@ -33,7 +33,7 @@ tag-of-state-requires c κs =
     (a .0 .width, a .0 .tailLen)
 
 store-requires : tie.Need-store-requires
-store-requires c κs = turn-admits _ _ (none (c .before .before .before)) .1
+store-requires c κs = turn-admits _ _ (none (c .before .before .before .before)) .1
 
 same-length : tie.Need-same-length
 same-length c = search needs
@@ -41,10 +41,14 @@ same-length c = search needs
 returns-2 : tie.Need-returns-2
 unfolding turnStep
 returns-2 c =
-    let args = c .before .before .before .before .before .before .before .before .before .args in
-    let tag = c .before .before .before .before .tag-of-state .ensures in
-    done _ _ _ _ (none (c .before .before .before .before .before .before))
-    (record { outcome = refl; state = ap (turned (args .self)) tag; output = c .before .before .store .ensures ∙ ap (put (args .output .now) 0) tag })
+    let args = c .before .before .before .before .before .before .before .before .before .before .args in
+    let tag = c .before .before .before .before .before .tag-of-state .ensures in
+    done _ _ _ _ (none (c .before .before .before .before .before .before .before))
+    (record {
+      outcome = ap (success 16) (tag .work);
+      state = ap (turned (args .self)) (tag .block);
+      output = c .before .before .store .ensures ∙ ap (put (args .output .now) 0) (tag .block);
+    })
 
 pub turn-spec : {M : Type 1} → statement M
 turn-spec =

@@ -1,7 +1,7 @@
 -- `stream::judge::fits` meets its contract.
 -- Assumes nothing.
 use mathlib.Core.Path.{refl, subst, ap, _∙_, _≡_, sym}
-use mathlib.Core.Bool.{_&&_}
+use mathlib.Core.Bool.{true, _&&_}
 use Prim.Native.Nat.{ℕ, _≤_, _<_}
 use lib.Dec.{eqb}
 use lib.ListN.{drop, length}
@@ -9,7 +9,7 @@ use borrow.Author.Needs.{needs}
 use borrow.Author.Tests.{eqb-true, not-true, not-false, eq-eqb, ne-eqb, lt-ltb, le-ltb}
 use Rattle.aes.specs.Aes.{isWidth}
 use Rattle.s2v.specs.S2v.{tailLength}
-use Rattle.stream.specs.State.{allZero, fits}
+use Rattle.stream.specs.State.{allZero, keptFits, fits}
 use Rattle.stream.proofs.judge.fits.Statement.{statement}
 use Rattle.stream.proofs.judge.fits.Tie as tie
 
@@ -45,10 +45,10 @@ returns-4 c =
     let past = subst (λ (m : ℕ). m < args .s .written) (c .before .before .written-limit .ensures) (c .if4 .taken) in
     simp (eq-eqb _ _ (c .before .before .before .before .before .before .before .if1 .left), wide (c .before .before .before .before .before .before) ∙ not-false _ (c .before .before .before .before .before .if2 .left), le-ltb _ _ (c .before .before .before .if3 .left), lt-ltb _ _ past)
 
--- past stage, width, total and written, the tail's length and its unused bytes decide
+-- past stage, width, total and written, the tail's length, the kept block and the tail's unused bytes decide
 tail-decides : (c : tie.Else4)
     → let args = c .before .before .before .before .before .before .before .before .before .args in
-    fits (args .wanted) (args .s) ≡ (eqb (args .s .«tail_len») (tailLength (args .s .total)) && allZero (drop (tailLength (args .s .total)) (args .s .tail)))
+    fits (args .wanted) (args .s) ≡ (eqb (args .s .«tail_len») (tailLength (args .s .total)) && keptFits (args .wanted) (args .s) && allZero (drop (tailLength (args .s .total)) (args .s .tail)))
 unfolding fits
 tail-decides c =
     let args = c .before .before .before .before .before .before .before .before .before .args in
@@ -65,17 +65,32 @@ tailed c = sym (c .is-tail-len .ensures)
 returns-5 : tie.Need-returns-5
 returns-5 c = sym (tail-decides (c .before .before) ∙ simp (tailed (c .before) ∙ not-true _ (c .if5 .taken)))
 
+kept-fits-requires : tie.Need-kept-fits-requires
+kept-fits-requires c κs = search needs
+
+-- and the kept block is
+kept : (c : tie.After-kept-fits) → keptFits (c .before .before .before .before .before .before .before .before .before .before .before .before .args .wanted) (c .before .before .before .before .before .before .before .before .before .before .before .before .args .s) ≡ c .kept-fits .result
+kept c = sym (c .kept-fits .ensures)
+
+-- the tail's length agrees from there on
+agrees : (c : tie.Else5) → eqb (c .before .before .before .before .before .before .before .before .before .before .before .args .s .«tail_len») (tailLength (c .before .before .before .before .before .before .before .before .before .before .before .args .s .total)) ≡ true
+agrees c = tailed (c .before) ∙ not-false _ (c .if5 .left)
+
+returns-6 : tie.Need-returns-6
+returns-6 c = sym (tail-decides (c .before .before .before .before) ∙ simp (agrees (c .before .before), kept (c .before) ∙ not-true _ (c .if6 .taken)))
+
 slice-aggregate-zero-from : tie.Need-slice-aggregate-zero-from
-slice-aggregate-zero-from c = sym (tail-length (c .before .before .before .before .before .before .before .before .before .before .before .before .before))
+slice-aggregate-zero-from c = sym (tail-length (c .before .before .before .before .before .before .before .before .before .before .before .before .before .before .before))
 
 zero-from-requires : tie.Need-zero-from-requires
 zero-from-requires c κs = search needs
 
-returns-6 : tie.Need-returns-6
-returns-6 c =
-    let s = c .before .before .before .before .before .before .before .before .before .before .before .before .before .before .args .s in
-    let agrees = tailed (c .before .before .before .before) ∙ not-false _ (c .before .before .before .if5 .left) in
-    c .zero-from .ensures ∙ ap (λ (k : ℕ). allZero (drop k (s .tail))) (eqb-true (s .«tail_len») (tailLength (s .total)) agrees) ∙ sym (tail-decides (c .before .before .before .before .before) ∙ simp agrees)
+returns-7 : tie.Need-returns-7
+returns-7 c =
+    let s = c .before .before .before .before .before .before .before .before .before .before .before .before .before .before .before .before .args .s in
+    let tailed = agrees (c .before .before .before .before .before) in
+    let whole = kept (c .before .before .before .before) ∙ not-false _ (c .before .before .before .if6 .left) in
+    c .zero-from .ensures ∙ ap (λ (k : ℕ). allZero (drop k (s .tail))) (eqb-true (s .«tail_len») (tailLength (s .total)) tailed) ∙ sym (tail-decides (c .before .before .before .before .before .before .before) ∙ simp (tailed, whole))
 
 pub fits-spec : {M : Type 1} → statement M
 fits-spec =
@@ -89,6 +104,8 @@ fits-spec =
     returns-4
     is-tail-len-requires
     returns-5
+    kept-fits-requires
+    returns-6
     slice-aggregate-zero-from
     zero-from-requires
-    returns-6)
+    returns-7)

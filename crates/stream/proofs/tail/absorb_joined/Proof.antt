@@ -22,7 +22,11 @@ encrypt-requires c κs = search needs
 returns : tie.Need-returns
 returns c =
     let args = c .before .before .before .before .before .args in
-    c .encrypt .ensures ∙ ap (cipher (args .width) (args .keys .now)) (c .before .xor-block .ensures ∙ ap (xors (args .c)) (c .before .before .load-joined .ensures))
+    let made = c .encrypt .ensures in
+    record {
+      block = made .block ∙ ap (cipher (args .width) (args .keys .now)) (c .before .xor-block .ensures ∙ ap (xors (args .c)) (c .before .before .load-joined .ensures));
+      work = made .work;
+    }
 
 pub absorb-joined-spec : {M : Type 1} → statement M
 absorb-joined-spec =

@@ -4,15 +4,19 @@ use mathlib.Core.List.{_++_}
 use mathlib.Core.Path.{ap, sym}
 use borrow.Author.Needs.{needs}
 use Rattle.aes.specs.Cipher.{cipher}
-use Rattle.cmac.specs.Cmac.{chain}
+use Rattle.cmac.specs.Cmac.{chain, chainWork}
 use Rattle.stream.proofs.tail.chain_text.Statement.{statement}
 use Rattle.stream.proofs.tail.chain_text.Tie as tie
 
 returns : tie.Need-returns
-unfolding chain
+unfolding chain chainWork
 returns c =
     let args = c .before .before .before .args in
-    ap (chain (cipher (args .width) (args .keys .now)) (args .c) (args .a .now ++ args .b .now)) (sym (c .if1 .taken))
+    let none = sym (c .if1 .taken) in
+    record {
+      block = ap (chain (cipher (args .width) (args .keys .now)) (args .c) (args .a .now ++ args .b .now)) none;
+      work = ap chainWork none;
+    }
 
 engine-requires : tie.Need-engine-requires
 engine-requires c κs = search needs
