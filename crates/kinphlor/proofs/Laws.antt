@@ -1,6 +1,6 @@
 -- Laws of the C interface's definitions.
 -- Assumes nothing.
-use mathlib.Core.Path.{_≡_, ap, ap₂, sym, _∙_}
+use mathlib.Core.Path.{_≡_, refl, ap, ap₂, sym, _∙_}
 use mathlib.Core.Bool.{true, false}
 use mathlib.Core.List.{List}
 use Prim.Native.Nat.{ℕ, _≤_}
@@ -9,11 +9,12 @@ use native.Mathlib.Omega.{arith}
 use lib.ListN.{length}
 use Rattle.siv.specs.declared.Refusal.{Refusal}
 use Rattle.siv.specs.declared.Refusal.the-variants.{KeyLength, HeaderCount, HeaderLengths, TooLong, SealedLength, OutputShort, ScratchShort, Forged, State, EmptyNonce, RingLength}
-use Rattle.siv.specs.declared.Answer.{Answer}
+use Rattle.siv.specs.declared.Report.{Report}
 use Rattle.siv.specs.declared.RingAnswer.{RingAnswer}
 use Rattle.siv.specs.Answer.{Outcome, numberOf, outcomeOf, withoutLength}
 use Rattle.siv.specs.Calls.{CallResult, DidCall}
 use Rattle.siv.specs.Ring.{DidRing, openRing}
+use Rattle.siv.proofs.Laws.{outcome-with}
 use Rattle.kinphlor.specs.Interface.{aeadLens, packed, emptyNonce, fromC, DidPacked, packedRing, emptyNonceRing, openRingFromC, DidPackedRing}
 
 -- a refusal's number is small, so that an answer fits in one number
@@ -35,10 +36,11 @@ module _ (nonce : ℕ) (key output scratch : List ℕ) (call : CallResult) where
   unfolding fromC
   nonce-refused e p = record { answer = simp e p; output = simp e; scratch = simp e }
 
-  pub call-packed : {r : ℕ} {a : Answer} {output′ scratch′ : List ℕ} → emptyNonce (length key) nonce ≡ false → DidCall call a output′ scratch′ → r ≡ packed (outcomeOf a)
+  pub call-packed : {r : ℕ} (report : Report) {output′ scratch′ : List ℕ} → emptyNonce (length key) nonce ≡ false → DidCall call report output′ scratch′ → r ≡ packed (outcomeOf (report .answer) 0)
       → DidPacked (fromC nonce key output scratch call) r output′ scratch′
   unfolding fromC
-  call-packed e d p = record { answer = simp e (p ∙ ap (λ (o : Outcome). packed o) (d .outcome)); output = simp e (d .output); scratch = simp e (d .scratch) }
+  call-packed report e d p =
+      record { answer = simp e (p ∙ ap (λ (o : Outcome). packed o) (outcome-with (report .answer) (report .work) 0 (d .outcome) refl)); output = simp e (d .output); scratch = simp e (d .scratch) }
 
 -- ---- a ring of keys
 
@@ -49,8 +51,8 @@ module _ (keyLength : ℕ) (ring header : List ℕ) (ad nonce : ℕ) (input outp
   ring-nonce-refused e p = record { answer = simp e (p ∙ sym (add-zero _)); output = simp e; scratch = simp e }
 
   pub ring-packed : {r : ℕ} (a : RingAnswer) {output′ scratch′ : List ℕ} → emptyNonceRing keyLength (length ring) nonce ≡ false
-      → DidRing (openRing keyLength ring header (aeadLens ad nonce) input output scratch) a output′ scratch′ → r ≡ packedRing (a .slot) (outcomeOf (a .answer))
+      → DidRing (openRing keyLength ring header (aeadLens ad nonce) input output scratch) a output′ scratch′ → r ≡ packedRing (a .slot) (outcomeOf (a .answer) 0)
       → DidPackedRing (openRingFromC keyLength ring header ad nonce input output scratch) r output′ scratch′
   unfolding openRingFromC
   ring-packed a e d p =
-      record { answer = simp e (p ∙ ap₂ packedRing (d .slot) (d .call .outcome)); output = simp e (d .call .output); scratch = simp e (d .call .scratch) }
+      record { answer = simp e (p ∙ ap₂ packedRing (d .slot) (outcome-with (a .answer) (a .work) 0 (d .call .outcome) refl)); output = simp e (d .call .output); scratch = simp e (d .call .scratch) }

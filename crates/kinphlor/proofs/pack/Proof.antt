@@ -26,10 +26,10 @@ mul-result : tie.Need-mul-result
 mul-result c = omega (arith, number-most (c .before .before .a2 .given .0 .0), c .number .ensures)
 
 returns : tie.Need-returns
-returns c = sym (ap (λ (a : Answer). packed (outcomeOf a)) (c .before .a .given .1) ∙ zero-add _)
+returns c = sym (ap (λ (a : Answer). packed (outcomeOf a 0)) (c .before .a .given .1) ∙ zero-add _)
 
 returns-2 : tie.Need-returns-2
-returns-2 c = ap (λ (m : ℕ). m * 4294967296) (c .number .ensures) ∙ sym (ap (λ (a : Answer). packed (outcomeOf a)) (c .before .before .a2 .given .1) ∙ add-zero _)
+returns-2 c = ap (λ (m : ℕ). m * 4294967296) (c .number .ensures) ∙ sym (ap (λ (a : Answer). packed (outcomeOf a 0)) (c .before .before .a2 .given .1) ∙ add-zero _)
 
 pub pack-spec : {M : Type 1} → statement M
 pack-spec =
