@@ -3,29 +3,32 @@
 use mathlib.Core.Path.{_≡_, refl, ap, ap₂, sym, subst, _∙_}
 use mathlib.Core.Bool.{Bool, true, false, not, cond, _&&_}
 use mathlib.Core.List.{List, [], _∷_, _++_}
-use Prim.Native.Nat.{ℕ, pred, _<_}
+use Prim.Native.Nat.{ℕ, pred, _+_, _-_, _*_, _<_}
 use native.Mathlib.Decide.{ℕ-discrete}
 use native.Mathlib.Omega.{arith}
 use lib.Dec.{ltb, eqb}
-use lib.ListN.{length, getD, replicate}
+use lib.ListN.{length, getD}
 use borrow.Author.Tests.{eqb-true, eq-eqb, ne-eqb}
-use Rattle.octets.specs.Octets.{put}
+use Rattle.cmac.specs.Cmac.{zeros}
 use Rattle.header.specs.Header.{total, strings}
 use Rattle.siv.specs.declared.Answer.{Answer}
 use Rattle.siv.specs.declared.Answer.the-variants.{Ok, Refused}
 use Rattle.siv.specs.declared.Refusal.{Refusal}
 use Rattle.siv.specs.declared.Refusal.the-variants.{KeyLength, HeaderCount, HeaderLengths, TooLong, SealedLength, OutputShort, ScratchShort, Forged, State, EmptyNonce, RingLength}
-use Rattle.siv.specs.Answer.{Outcome, Row, row, first, success, withoutLength, numberOf, outcomeOf}
-use Rattle.siv.specs.Calls.{CallResult, isKeyLength, openRows, sealTable, sealNumber, sealCall, openTable, openNumber, openCall}
-use Rattle.siv.specs.Ring.{slotCount, slotKey, ringRows, RingResult, openSlot}
-use Rattle.siv.specs.Siv.{genuine}
-use Rattle.siv.proofs.Laws.{lacks, first-not, first-pass, first-stop, first-none, refusal-number, none-where, seal-count, open-count}
-use Rattle.siv.proofs.Ring.{RingWhole, ring-admits, slot-keyed, Chosen, chosen-within, chosen-closed, chosen-same, opensAt, Comes, goes, stops, ring-comes}
+use Rattle.siv.specs.Answer.{Outcome, Row, row, first, success, withoutLength, forged, numberOf, outcomeOf}
+use Rattle.siv.specs.Calls.{CallResult, isKeyLength, headerRows, openRows, sealTable, sealNumber, sealCall, openTable, openNumber, openCall}
+use Rattle.siv.specs.Ring.{slotCount, slotKey, ringRows, RingResult, openSlot, opensAt}
+use Rattle.siv.specs.Siv.{genuine, genuineWork}
+use Rattle.siv.specs.Work.{blocksOfAll, blockWork}
+use Rattle.siv.proofs.Laws.{lacks, first-not, first-pass, first-stop, first-none, refusal-number, outcome-work, none-where, header-admits, seal-admits, seal-count, openJudged, open-admits, open-passed, open-forged, open-unread, open-count}
+use Rattle.siv.proofs.Lengths.{sealed-lengths, genuine-lengths}
+use Rattle.siv.proofs.Ring.{RingWhole, ring-admits, slot-keyed, Chosen, chosen-within, chosen-closed, chosen-same, Comes, goes, stops, ring-comes, ring-idle, ring-work}
 use Rattle.head.specs.declared.Head.{Head}
-use Rattle.head.specs.Head.{zeroHead, fitsHead, MakeResult, settleHead, makeHead, extendHead}
+use Rattle.head.specs.Head.{zeroHead, headOf, headOfWork, extended, extendedWork, fitsHead, restRows, MakeResult, madeHead, settleHead, makeHead, extendHead}
+use Rattle.head.proofs.Laws.{head-lengths, extended-lengths, rest-admits}
 use Rattle.stream.specs.declared.Stream.{Stream}
-use Rattle.stream.specs.State.{ended}
-use Rattle.stream.specs.Steps.{StepResult, doneStep, refusedStep, settle, tagRows, beginSealer, beginOpener, beginSealerFrom, beginOpenerFrom, addStep, turnStep, writeStep, closeStep, feedStep, finishTable, finishStep}
+use Rattle.stream.specs.State.{ended, start, tagOfStateWork}
+use Rattle.stream.specs.Steps.{StepResult, doneStep, refusedStep, settle, tagRows, beginBy, beginSealer, beginOpener, beginSealerFrom, beginOpenerFrom, addStep, turnStep, writeStep, closeStep, feedStep, finishTable, forgedStep, finishStep}
 use Rattle.kinphlor.specs.Interface.{aeadLens, emptyNonce, fromC}
 use Rattle.demands.specs.First.{order, keeps, FirstDue, none, here, later, FirstSeal, FirstOpen, rowsFromC, FirstFromC, noSlot, FirstRing, restTable, FirstHead, FirstStep, FirstFinish, First}
 use Rattle.demands.proofs.Parts.{from-c-parts, ring-parts}
@@ -49,13 +52,16 @@ module _ (key bytes lens input output scratch : List ℕ) where
   unfolding openNumber
   open-first = first-due (openTable key bytes lens input output scratch)
 
+  open-lengths : openJudged key bytes lens input output scratch ≡ 0 → genuineWork key (strings bytes lens) input ≡ blockWork lens (length input - 16)
+  open-lengths j = genuine-lengths key bytes lens input (omega (arith, open-admits key bytes lens input output scratch j .listed))
+
   sealing : FirstSeal key bytes lens input output scratch
   unfolding sealCall
   sealing =
       record {
         ordered = refl;
         first = seal-first;
-        done = λ e. (simp e, simp e, simp e);
+        done = λ e. (simp e (ap (success (length input + 16)) (sealed-lengths key bytes lens input (omega (arith, seal-admits key bytes lens input output scratch e .listed)))), simp e, simp e);
         refused = λ n e z.
             let off = ne-eqb n 0 z in
             (simp (e, off), simp (e, off), simp (e, off));
@@ -67,12 +73,12 @@ module _ (key bytes lens input output scratch : List ℕ) where
       record {
         ordered = refl;
         first = open-first;
-        done = λ e. (simp e, simp e, simp e);
-        forged = λ e. (simp e, simp e, simp e);
+        done = λ e. (simp e (ap (success (length input - 16)) (open-lengths (open-passed key bytes lens input output scratch e))), simp e, simp e);
+        forged = λ e. (simp e (ap forged (open-lengths (open-forged key bytes lens input output scratch e))), simp e, simp e);
         refused = λ n e z w.
             let off = ne-eqb n 0 z in
             let off8 = ne-eqb n 8 w in
-            (simp (e, off), simp (e, off, off8), simp (e, off, off8));
+            (simp (e, off, off8), simp (e, off, off8), simp (e, off, off8));
       }
 
 -- ---- the C interface
@@ -118,6 +124,11 @@ module _ (rest : List Row) (nonce : ℕ) (key output scratch : List ℕ) (call :
           by-call (first rest) (ap₂ _&&_ a z) (ap (λ (t : Bool). cond (not t) 1 (first rest)) a) (later (ap not a) (later z (first-due rest)))
 
 -- ---- a ring of keys
+
+-- an outcome with another work
+with-work : {call o : Outcome} {w v : ℕ} → call ≡ o → w ≡ v
+    → _≡_ {A = Outcome} (record { number = call .number; count = call .count; work = w }) (record { number = o .number; count = o .count; work = v })
+with-work e f = ap₂ (λ (x : Outcome) (k : ℕ). record { number = x .number; count = x .count; work = k }) e f
 
 module _ (keyLength : ℕ) (ring bytes lens input output scratch : List ℕ) where
   abbrev count : ℕ
@@ -165,9 +176,14 @@ module _ (keyLength : ℕ) (ring bytes lens input output scratch : List ℕ) whe
     abbrev back : List Row
     back = lengthRows ++ forgedRow (noSlot genuineAt count)
 
+    -- the work for the keys up to slot s, or for all
+    abbrev tried : ℕ → Bool → ℕ
+    tried s t = cond t (s + 1) count * blockWork lens (length input - 16)
+
     -- a ring's call by its table, whatever rows are put behind the ring's
     by-ring : {result : RingResult} → keeps order (front ++ back) ≡ true → lacks 0 behind ≡ true → lacks 8 behind ≡ true
         → Comes keyLength ring bytes lens input output scratch (first front) result → FirstRing keyLength ring bytes lens input output scratch (front ++ back) result
+    unfolding openCall
     by-ring k l l8 (stops z) =
         record {
           ordered = k;
@@ -179,13 +195,23 @@ module _ (keyLength : ℕ) (ring bytes lens input output scratch : List ℕ) whe
         }
     by-ring k l l8 (goes {s} z g) =
         let one = opening (slotKey keyLength ring s) bytes lens input output scratch in
-        let number = chosen-number (first-none (ringRows keyLength (length ring)) behind refl z .0) g in
+        let due = first-none (ringRows keyLength (length ring)) behind refl z .0 in
+        let number = chosen-number due g in
         record {
           ordered = k;
           first = subst (FirstDue (front ++ back)) (first-pass front back l z ∙ sym number) (first-due (front ++ back));
-          done = one .done;
-          forged = one .forged;
-          refused = one .refused;
+          done = λ e.
+              let judged = open-passed (slotKey keyLength ring s) bytes lens input output scratch e in
+              let left = one .done e in
+              (with-work (left .0) (ring-work keyLength ring bytes lens input output scratch due g judged ∙ ap (tried s) (eq-eqb _ 0 e)), left .1, left .2);
+          forged = λ e.
+              let judged = open-forged (slotKey keyLength ring s) bytes lens input output scratch e in
+              let left = one .forged e in
+              (with-work (left .0) (ring-work keyLength ring bytes lens input output scratch due g judged ∙ ap (tried s) (ne-eqb _ 0 (λ y. omega (arith, sym e ∙ y)))), left .1, left .2);
+          refused = λ n e m m8.
+              let unread = open-unread (slotKey keyLength ring s) bytes lens input output scratch (λ y. m (sym e ∙ y)) (λ y. m8 (sym e ∙ y)) in
+              let left = one .refused n e m m8 in
+              (with-work (left .0) (ring-idle keyLength ring bytes lens input output scratch due s (chosen-within _ count (ring-admits keyLength (length ring) due .1 .some) g) unread), left .1, left .2);
           slotless = λ m. chosen-closed _ count g (ne-eqb _ 0 m);
         }
 
@@ -216,13 +242,13 @@ rest-ordered h lens restLength = refl
 rest-tag-ordered : (h : Head) (lens : List ℕ) (restLength tagLength : ℕ) → keeps order (restTable h lens restLength ++ tagRows tagLength) ≡ true
 rest-tag-ordered h lens restLength tagLength = refl
 
-by-head : (table : List Row) (h : Head) → keeps order table ≡ true → FirstHead table (settleHead (first table) h) h
-by-head table h k =
-    let t = settled (λ (r : MakeResult). r .outcome .number) (first table) (record { outcome = success 0; head = h }) (λ n. record { outcome = withoutLength n; head = zeroHead }) refl (λ n. refl) in
+by-head : (table : List Row) (w w′ : ℕ) (h : Head) → keeps order table ≡ true → (first table ≡ 0 → w ≡ w′) → FirstHead table (settleHead (first table) w h) w′ h
+by-head table w w′ h k works =
+    let t = settled (λ (r : MakeResult). r .outcome .number) (first table) (madeHead w h) (λ n. record { outcome = withoutLength n; head = zeroHead }) refl (λ n. refl) in
     record {
       ordered = k;
       first = subst (FirstDue table) (sym (t .number)) (first-due table);
-      done = λ e. t .done (sym (t .number) ∙ e);
+      done = λ e. let zero = sym (t .number) ∙ e in t .done zero ∙ ap (λ (n : ℕ). madeHead n h) (works zero);
       refused = λ n e. t .refused n (sym (t .number) ∙ e);
     }
 
@@ -243,30 +269,49 @@ by-table table done s output k z =
       refused = λ n e. t .refused n (sym (t .number) ∙ e);
     }
 
+-- a begin, whose work is told from lengths
+by-begin : (table : List Row) (w w′ : ℕ) (h : Head) (stage : ℕ) (v : List ℕ) → keeps order table ≡ true → (first table ≡ 0 → w ≡ w′)
+    → FirstStep table (beginBy (first table) w h stage v) (doneStep 0 w′ (start h stage v) []) ended []
+by-begin table w w′ h stage v k works =
+    let t = by-table table (doneStep 0 w (start h stage v) []) ended [] k refl in
+    record {
+      ordered = k;
+      first = t .first;
+      done = λ e.
+          let zero = sym (step-settled (first table) (doneStep 0 w (start h stage v) []) ended [] refl .number) ∙ e in
+          t .done e ∙ ap (λ (n : ℕ). doneStep 0 n (start h stage v) []) (works zero);
+      refused = t .refused;
+    }
+
+-- the work of a header list's strings, where no refusal is due for key and list
+header-work : (key bytes lens : List ℕ) → first (headerRows (length key) lens (length bytes)) ≡ 0 → headOfWork (strings bytes lens) ≡ 2 + blocksOfAll lens
+header-work key bytes lens e = head-lengths bytes lens (omega (arith, header-admits (length key) lens (length bytes) e .1))
+
+-- and of those that follow a head's
+rest-work : (h : Head) (bytes lens : List ℕ) → first (restRows h lens (length bytes)) ≡ 0 → extendedWork (strings bytes lens) ≡ blocksOfAll lens
+rest-work h bytes lens e = extended-lengths bytes lens (omega (arith, rest-admits h lens (length bytes) e .listed))
+
 finishing : (s : Stream) (output : List ℕ) → FirstFinish s output
 unfolding finishStep
 finishing s output =
     let n : ℕ = first (finishTable s output) in
-    let done : StepResult = doneStep (s .total) ended output in
+    let done : StepResult = doneStep (s .total) (tagOfStateWork s) ended output in
     let number : finishStep s output .outcome .number ≡ n = go (eqb n 8) refl in
     record {
       ordered = refl;
       first = subst (FirstDue (finishTable s output)) (sym number) (first-due (finishTable s output));
       done = λ e.
           let zero : n ≡ 0 = sym number ∙ e in
-          ap (λ (t : Bool). cond t (forged s output) (settle n done s output)) (ne-eqb n 8 (λ p. omega (arith, p, zero))) ∙ step-settled n done s output refl .done zero;
-      forged = λ e. ap (λ (t : Bool). cond t (forged s output) (settle n done s output)) (eq-eqb n 8 (sym number ∙ e));
+          ap (λ (t : Bool). cond t (forgedStep s output) (settle n done s output)) (ne-eqb n 8 (λ p. omega (arith, p, zero))) ∙ step-settled n done s output refl .done zero;
+      forged = λ e. ap (λ (t : Bool). cond t (forgedStep s output) (settle n done s output)) (eq-eqb n 8 (sym number ∙ e));
       refused = λ m e k k8.
-          ap (λ (t : Bool). cond t (forged s output) (settle n done s output)) (ne-eqb n 8 (λ p. k8 (sym e ∙ number ∙ p))) ∙ step-settled n done s output refl .refused m (sym number ∙ e) k;
+          ap (λ (t : Bool). cond t (forgedStep s output) (settle n done s output)) (ne-eqb n 8 (λ p. k8 (sym e ∙ number ∙ p))) ∙ step-settled n done s output refl .refused m (sym number ∙ e) k;
     }
   where
-    forged : Stream → List ℕ → StepResult
-    forged s output = refusedStep 8 ended (put output 0 (replicate (s .total) 0))
-
     go : (t : Bool) → eqb (first (finishTable s output)) 8 ≡ t
-        → cond t (forged s output) (settle (first (finishTable s output)) (doneStep (s .total) ended output) s output) .outcome .number ≡ first (finishTable s output)
+        → cond t (forgedStep s output) (settle (first (finishTable s output)) (doneStep (s .total) (tagOfStateWork s) ended output) s output) .outcome .number ≡ first (finishTable s output)
     go true e = sym (eqb-true (first (finishTable s output)) 8 e)
-    go false e = step-settled (first (finishTable s output)) (doneStep (s .total) ended output) s output refl .number
+    go false e = step-settled (first (finishTable s output)) (doneStep (s .total) (tagOfStateWork s) ended output) s output refl .number
 
 -- a refusal by its number
 refusal : ℕ → Refusal
@@ -287,12 +332,15 @@ by-number State = refl
 by-number EmptyNonce = refl
 by-number RingLength = refl
 
-outcome-tells : (a b : Answer) → outcomeOf a ≡ outcomeOf b → a ≡ b
-outcome-tells (Ok m) (Ok n) e = ap (λ (k : ℕ). Ok k) (ap (λ (o : Outcome). o .count) e)
-outcome-tells (Ok m) (Refused r) e = absurd (refusal-number r (sym (ap (λ (o : Outcome). o .number) e)))
-outcome-tells (Refused r) (Ok n) e = absurd (refusal-number r (ap (λ (o : Outcome). o .number) e))
-outcome-tells (Refused r) (Refused s) e =
+answer-tells : (a b : Answer) (w w′ : ℕ) → outcomeOf a w ≡ outcomeOf b w′ → a ≡ b
+answer-tells (Ok m) (Ok n) w w′ e = ap (λ (k : ℕ). Ok k) (ap (λ (o : Outcome). o .count) e)
+answer-tells (Ok m) (Refused r) w w′ e = absurd (refusal-number r (sym (ap (λ (o : Outcome). o .number) e)))
+answer-tells (Refused r) (Ok n) w w′ e = absurd (refusal-number r (ap (λ (o : Outcome). o .number) e))
+answer-tells (Refused r) (Refused s) w w′ e =
     ap (λ (x : Refusal). Refused x) (sym (by-number r) ∙ ap (λ (o : Outcome). refusal (o .number)) e ∙ by-number s)
+
+outcome-tells : (a b : Answer) (w w′ : ℕ) → outcomeOf a w ≡ outcomeOf b w′ → (a ≡ b) × (w ≡ w′)
+outcome-tells a b w w′ e = (answer-tells a b w w′ e, sym (outcome-work a w) ∙ ap (λ (o : Outcome). o .work) e ∙ outcome-work b w′)
 
 pub answers-or-first-refusal : First
 unfolding makeHead fitsHead extendHead beginSealer beginOpener beginSealerFrom beginOpenerFrom addStep turnStep writeStep closeStep feedStep sealNumber sealCall openNumber openCall
@@ -312,12 +360,14 @@ answers-or-first-refusal =
       openingRingParts = λ keyLength ring header input output scratch ad nonce.
           ring-parts keyLength ring header (aeadLens ad nonce) input output scratch (row 10 (eqb nonce 0) ∷ [])
           (ring-comes-from-c keyLength ring header input output scratch ad nonce);
-      makingHead = λ key bytes lens. by-head _ _ refl;
-      extendingHead = λ h bytes lens. by-head _ _ (rest-ordered h lens (length bytes));
-      beginningSealer = λ key bytes lens. by-table _ _ _ _ refl refl;
-      beginningOpener = λ key bytes lens tag. by-table _ _ _ _ refl refl;
-      beginningSealerFrom = λ h bytes lens. by-table _ _ _ _ (rest-ordered h lens (length bytes)) refl;
-      beginningOpenerFrom = λ h bytes lens tag. by-table _ _ _ _ (rest-tag-ordered h lens (length bytes) (length tag)) refl;
+      makingHead = λ key bytes lens. by-head _ _ _ _ refl (header-work key bytes lens);
+      extendingHead = λ h bytes lens. by-head _ _ _ _ (rest-ordered h lens (length bytes)) (rest-work h bytes lens);
+      beginningSealer = λ key bytes lens. by-begin _ _ _ (headOf key (strings bytes lens)) 1 zeros refl (header-work key bytes lens);
+      beginningOpener = λ key bytes lens tag.
+          by-begin _ _ _ (headOf key (strings bytes lens)) 3 tag refl (λ e. header-work key bytes lens (first-none (headerRows (length key) lens (length bytes)) (tagRows (length tag)) refl e .0));
+      beginningSealerFrom = λ h bytes lens. by-begin _ _ _ (extended h (strings bytes lens)) 1 zeros (rest-ordered h lens (length bytes)) (rest-work h bytes lens);
+      beginningOpenerFrom = λ h bytes lens tag.
+          by-begin _ _ _ (extended h (strings bytes lens)) 3 tag (rest-tag-ordered h lens (length bytes) (length tag)) (λ e. rest-work h bytes lens (first-none (restRows h lens (length bytes)) (tagRows (length tag)) refl e .0));
       adding = λ s piece. by-table _ _ _ _ refl refl;
       turning = λ s output. by-table _ _ _ _ refl refl;
       writing = λ s piece output. by-table _ _ _ _ refl refl;

@@ -1,37 +1,51 @@
 -- A list divided into a head and the rest gives what the undivided list gives: both are judged alike, and D goes on where the head left it.
 -- Assumes nothing.
-use mathlib.Core.Path.{_≡_, refl, ap, ap₂, sym, _∙_}
-use mathlib.Core.Bool.{Bool, false, not, cond}
-use mathlib.Core.List.{List, _++_}
-use Prim.Native.Nat.{ℕ, _+_}
+use mathlib.Core.Path.{_≡_, refl, ap, ap₂, sym, subst, _∙_}
+use mathlib.Core.Bool.{Bool, true, false, not, cond}
+use mathlib.Core.List.{List, [], _++_}
+use Prim.Native.Nat.{ℕ, _+_, _≤_}
 use native.Mathlib.Omega.{arith}
 use lib.Dec.{eqb, ltb}
-use lib.ListN.{length, take, drop, length-append, take-append-drop}
+use lib.ListN.{length, take, drop, length-append, length-drop, take-append-drop}
 use lib.Seq.{length-take-le, take-at, drop-at}
 use borrow.Author.Tests.{eqb-true, eq-eqb, le-ltb}
 use Rattle.cmac.specs.Cmac.{zeros}
 use Rattle.header.specs.Header.{total, strings}
 use Rattle.header.proofs.Laws.{total-append, total-take, strings-append, length-strings, strings-within}
 use Rattle.octets.proofs.Tests.{bool-ext}
-use Rattle.siv.specs.Answer.{success, Row, first}
+use Rattle.siv.specs.Answer.{Row, first}
 use Rattle.siv.specs.Calls.{headerRows}
+use Rattle.siv.specs.Work.{blocksOfAll}
 use Rattle.siv.proofs.Laws.{halves, first-append}
+use Rattle.siv.proofs.Lengths.{blocks-append}
 use Rattle.head.specs.declared.Head.{Head}
-use Rattle.head.specs.Head.{headOf, extended, fitsHead, restRows, MakeResult, settleHead, makeHead, extendHead}
-use Rattle.head.proofs.Laws.{extended-head}
-use Rattle.stream.specs.Steps.{tagRows, beginBy, beginSealer, beginOpener, beginSealerFrom, beginOpenerFrom}
-use Rattle.demands.specs.Head.{Split, Heads}
-use Rattle.demands.specs.Run.{Begin, sealer, opener, undivided, begunFrom, firstBytes, restBytes, begun}
+use Rattle.head.specs.Head.{headOf, headOfWork, extended, extendedWork, fitsHead, restRows, MakeResult, madeHead, settleHead, makeHead, extendHead}
+use Rattle.head.proofs.Laws.{head-lengths, extended-lengths, extended-head}
+use Rattle.stream.specs.State.{ended, start}
+use Rattle.stream.specs.Steps.{StepResult, doneStep, refusedStep, tagRows, beginBy, beginSealer, beginOpener, beginSealerFrom, beginOpenerFrom}
+use Rattle.demands.specs.Head.{SameButWork, Split, Heads}
+use Rattle.demands.specs.Run.{Begin, sealer, opener, Start, undivided, divided, begunFrom, firstBytes, restBytes, begun}
+use Rattle.demands.specs.Third.{beginWork}
 use Rattle.demands.specs.Whole.{Admits}
+use Rattle.demands.proofs.First.{answers-or-first-refusal}
 
 -- no refusal is due for an admitted key and list
 pub admitted : (key bytes lens : List ℕ) → Admits key bytes lens → first (headerRows (length key) lens (length bytes)) ≡ 0
 admitted key bytes lens a = simp (a .keyed, le-ltb 126 (length lens) (a .few), eq-eqb (total lens) (length bytes) (a .listed))
 
 -- so its head is made
-made : (key bytes lens : List ℕ) → Admits key bytes lens → makeHead key bytes lens ≡ record { outcome = success 0; head = headOf key (strings bytes lens) }
+pub made : (key bytes lens : List ℕ) → Admits key bytes lens → makeHead key bytes lens ≡ madeHead (2 + blocksOfAll lens) (headOf key (strings bytes lens))
 unfolding makeHead
-made key bytes lens a = ap (λ (n : ℕ). settleHead n (headOf key (strings bytes lens))) (admitted key bytes lens a)
+made key bytes lens a =
+    ap₂ (λ (n w : ℕ). settleHead n w (headOf key (strings bytes lens))) (admitted key bytes lens a) (head-lengths bytes lens (omega (arith, a .listed)))
+
+-- a begin that succeeds reports the blocks of its strings, and 2 where it makes L and the CMAC of the zero block
+pub begun-work : (key bytes lens : List ℕ) (start : Start) (begin : Begin) → begun key bytes lens start begin .outcome .number ≡ 0
+    → begun key bytes lens start begin .outcome .work ≡ beginWork lens start
+begun-work key bytes lens undivided sealer e = ap (λ (r : StepResult). r .outcome .work) (answers-or-first-refusal .beginningSealer key bytes lens .done e)
+begun-work key bytes lens undivided (opener T) e = ap (λ (r : StepResult). r .outcome .work) (answers-or-first-refusal .beginningOpener key bytes lens T .done e)
+begun-work key bytes lens (divided n) sealer e = ap (λ (r : StepResult). r .outcome .work) (answers-or-first-refusal .beginningSealerFrom _ _ (drop n lens) .done e)
+begun-work key bytes lens (divided n) (opener T) e = ap (λ (r : StepResult). r .outcome .work) (answers-or-first-refusal .beginningOpenerFrom _ _ (drop n lens) T .done e)
 
 -- and what follows it
 module _ (key bytes lens more moreLens : List ℕ) (a : Admits key bytes lens) where
@@ -65,23 +79,41 @@ module _ (key bytes lens more moreLens : List ℕ) (a : Admits key bytes lens) w
           (λ e. eq-eqb (total (lens ++ moreLens)) (length (bytes ++ more)) (omega (arith, sum, length-append bytes more, eqb-true (total moreLens) (length more) e)))
           (λ e. eq-eqb (total moreLens) (length more) (omega (arith, sum, length-append bytes more, eqb-true (total (lens ++ moreLens)) (length (bytes ++ more)) e)))
 
-  joins : (begin : Begin) → begunFrom (makeHead key bytes lens .head) more moreLens begin ≡ begun key (bytes ++ more) (lens ++ moreLens) undivided begin
+  -- begins that differ in their work alone
+  same : (n w w′ : ℕ) (h : Head) (stage : ℕ) (v : List ℕ) → SameButWork (beginBy n w h stage v) (beginBy n w′ h stage v)
+  same n w w′ h stage v = go (eqb n 0)
+    where
+      go : (t : Bool) → SameButWork (cond t (doneStep 0 w (start h stage v) []) (refusedStep n ended [])) (cond t (doneStep 0 w′ (start h stage v) []) (refusedStep n ended []))
+      go true = record { number = refl; count = refl; state = refl; output = refl }
+      go false = record { number = refl; count = refl; state = refl; output = refl }
+
+  joins : (begin : Begin) → SameButWork (begunFrom (makeHead key bytes lens .head) more moreLens begin) (begun key (bytes ++ more) (lens ++ moreLens) undivided begin)
   unfolding beginSealer beginOpener beginSealerFrom beginOpenerFrom
   joins sealer =
-      ap (λ (r : MakeResult). beginSealerFrom (r .head) more moreLens) (made key bytes lens a)
-      ∙ ap₂ (λ (n : ℕ) (g : Head). beginBy n g 1 zeros) same-number same-head
+      let w : ℕ = extendedWork (strings more moreLens) in
+      subst (λ (r : StepResult). SameButWork r (beginSealer key (bytes ++ more) (lens ++ moreLens)))
+      (sym (ap (λ (r : MakeResult). beginSealerFrom (r .head) more moreLens) (made key bytes lens a) ∙ ap₂ (λ (n : ℕ) (g : Head). beginBy n w g 1 zeros) same-number same-head))
+      (same (first (headerRows (length key) (lens ++ moreLens) (length (bytes ++ more)))) w (headOfWork (strings (bytes ++ more) (lens ++ moreLens))) (headOf key (strings (bytes ++ more) (lens ++ moreLens))) 1 zeros)
   joins (opener T) =
       let tag : List Row = tagRows (length T) in
-      ap (λ (r : MakeResult). beginOpenerFrom (r .head) more moreLens T) (made key bytes lens a)
-      ∙ ap₂ (λ (n : ℕ) (g : Head). beginBy n g 3 T)
+      let w : ℕ = extendedWork (strings more moreLens) in
+      subst (λ (r : StepResult). SameButWork r (beginOpener key (bytes ++ more) (lens ++ moreLens) T))
+      (sym
+      (ap (λ (r : MakeResult). beginOpenerFrom (r .head) more moreLens T) (made key bytes lens a)
+      ∙ ap₂ (λ (n : ℕ) (g : Head). beginBy n w g 3 T)
       (first-append (restRows (headOf key (strings bytes lens)) moreLens (length more)) tag refl
       ∙ ap (λ (n : ℕ). cond (eqb n 0) (first tag) n) same-number
       ∙ sym (first-append (headerRows (length key) (lens ++ moreLens) (length (bytes ++ more))) tag refl))
-      same-head
+      same-head))
+      (same (first (headerRows (length key) (lens ++ moreLens) (length (bytes ++ more)) ++ tag)) w (headOfWork (strings (bytes ++ more) (lens ++ moreLens))) (headOf key (strings (bytes ++ more) (lens ++ moreLens))) 3 T)
 
-  extends : extendHead (makeHead key bytes lens .head) more moreLens ≡ makeHead key (bytes ++ more) (lens ++ moreLens)
-  unfolding extendHead makeHead
-  extends = ap (λ (r : MakeResult). extendHead (r .head) more moreLens) (made key bytes lens a) ∙ ap₂ settleHead same-number same-head
+  extends : total moreLens ≤ length more → first (headerRows (length key) (lens ++ moreLens) (length (bytes ++ more))) ≡ 0
+      → extendHead (makeHead key bytes lens .head) more moreLens ≡ madeHead (blocksOfAll moreLens) (headOf key (strings (bytes ++ more) (lens ++ moreLens)))
+  unfolding extendHead
+  extends listed z =
+      ap (λ (r : MakeResult). extendHead (r .head) more moreLens) (made key bytes lens a)
+      ∙ ap₂ (λ (n : ℕ) (g : Head). settleHead n (extendedWork (strings more moreLens)) g) (same-number ∙ z) same-head
+      ∙ ap (λ (w : ℕ). madeHead w (headOf key (strings (bytes ++ more) (lens ++ moreLens)))) (extended-lengths more moreLens listed)
 
 -- a list that is divided is what it is joined from
 module _ (key bytes lens : List ℕ) (a : Admits key bytes lens) (n : ℕ) where
@@ -98,14 +130,40 @@ module _ (key bytes lens : List ℕ) (a : Admits key bytes lens) (n : ℕ) where
   whole : {A : Type 0} (f : List ℕ → List ℕ → A) → f ((firstBytes key bytes lens n) ++ restBytes key bytes lens n) (take n lens ++ drop n lens) ≡ f bytes lens
   whole f = ap₂ f (take-append-drop (total (take n lens)) bytes) (take-append-drop n lens)
 
+  rest-listed : total (drop n lens) ≤ length (restBytes key bytes lens n)
+  rest-listed =
+      omega
+      (
+        arith,
+        length-drop (total (take n lens)) bytes,
+        sym (total-append (take n lens) (drop n lens)) ∙ ap total (take-append-drop n lens),
+        a .listed,
+      )
+
   split : Split key bytes lens n
   split =
       record {
         made = ap (λ (r : MakeResult). r .outcome) (made key (firstBytes key bytes lens n) (take n lens) front-admitted);
-        begins = λ begin.
-            joins key (firstBytes key bytes lens n) (take n lens) (restBytes key bytes lens n) (drop n lens) front-admitted begin ∙ whole (λ b l. begun key b l undivided begin);
-        extends = extends key (firstBytes key bytes lens n) (take n lens) (restBytes key bytes lens n) (drop n lens) front-admitted ∙ whole (makeHead key);
+        begins = begins;
+        works = λ begin e.
+            omega
+            (
+              arith,
+              ap (λ (r : MakeResult). r .outcome .work) (made key (firstBytes key bytes lens n) (take n lens) front-admitted),
+              begun-work key bytes lens (divided n) begin e,
+              begun-work key bytes lens undivided begin (sym (begins begin .number) ∙ e),
+              sym (blocks-append (take n lens) (drop n lens)) ∙ ap blocksOfAll (take-append-drop n lens),
+            );
+        extends =
+            extends key (firstBytes key bytes lens n) (take n lens) (restBytes key bytes lens n) (drop n lens) front-admitted rest-listed
+            (whole (λ b l. first (headerRows (length key) l (length b))) ∙ admitted key bytes lens a)
+            ∙ ap (madeHead (blocksOfAll (drop n lens))) (whole (λ b l. headOf key (strings b l)) ∙ sym (ap (λ (r : MakeResult). r .head) (made key bytes lens a)));
       }
+    where
+      begins : (begin : Begin) → SameButWork (begun key bytes lens (divided n) begin) (begun key bytes lens undivided begin)
+      begins begin =
+          subst (SameButWork (begun key bytes lens (divided n) begin)) (whole (λ b l. begun key b l undivided begin))
+          (joins key (firstBytes key bytes lens n) (take n lens) (restBytes key bytes lens n) (drop n lens) front-admitted begin)
 
 pub divided-as-undivided : Heads
 divided-as-undivided = record { splits = split; joins = joins }

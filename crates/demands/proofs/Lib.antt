@@ -10,3 +10,4 @@ pub mod Pieces
 pub mod Steps
 pub mod Third
 pub mod Tail
+pub mod Work

@@ -1,10 +1,12 @@
 -- The state after a begin and any pieces, in one form: pieces join, the state fits its calls, and it gives the tag and the key stream of RFC 5297.
 -- Assumes nothing.
 use mathlib.Core.Path.{_≡_, refl, ap, ap₂, sym, _∙_}
-use mathlib.Core.Bool.{true}
+use mathlib.Core.Bool.{Bool, true, false, not, cond, _||_}
 use mathlib.Core.List.{List, [], _++_}
-use Prim.Native.Nat.{ℕ, zero, suc, _+_, _-_, _*_, _/_, _≤_}
+use Prim.Native.Nat.{ℕ, zero, suc, _+_, _-_, _*_, _/_, _%_, _≤_, _<_}
+use native.Mathlib.Decide.{decLt}
 use native.Mathlib.Omega.{arith}
+use lib.Dec.{eqb}
 use lib.ListN.{length, take, drop, replicate, length-append, length-take, length-drop, length-replicate}
 use lib.Seq.{drop-append-le, drop-drop, drop-at}
 use borrow.Author.Tests.{eq-eqb, le-ltb}
@@ -16,19 +18,21 @@ use Rattle.aes.specs.KeyExpansion.{roundKeys}
 use Rattle.aes.proofs.Widths.{length-cipher}
 use Rattle.cmac.specs.declared.Subkeys.{Subkeys}
 use Rattle.cmac.specs.Cmac.{zeros, chain, subkeys, zeroCipher}
-use Rattle.cmac.proofs.Laws.{chain-front, chain-add}
+use Rattle.cmac.proofs.Laws.{chain-work, chain-front, chain-add}
 use Rattle.s2v.specs.S2v.{tailLength, headerResult, tagFrom, s2v}
-use Rattle.s2v.proofs.Laws.{Tail, tail, tag-tail}
-use Rattle.ctr.specs.Counter.{xorStream}
-use Rattle.ctr.proofs.Laws.{xorStream-append}
+use Rattle.s2v.proofs.Laws.{tail-short, tail-long, Tail, tail, tag-tail, length-headerResult}
+use Rattle.ctr.specs.Counter.{clear, plus, xorStream, begunBlock, pieceWork, xorPiece, keptAfter}
+use Rattle.ctr.proofs.Laws.{stream-work, xorStream-append, xorPiece-own, keptAfter-own}
 use Rattle.siv.specs.Calls.{isKeyLength, limit}
 use Rattle.siv.specs.Siv.{macKey, ctrKey, tagOf, streamed}
+use Rattle.siv.specs.Work.{sixteenths, blocksOf}
 use Rattle.siv.proofs.Laws.{KeyHalves, halves, aes-cipher}
+use Rattle.siv.proofs.Lengths.{tag-lengths}
 use Rattle.head.specs.Head.{headOf}
 use Rattle.stream.specs.declared.Stream.{Stream}
-use Rattle.stream.specs.State.{start, allZero, writtenLimit, fits, usedTail, tailOf, passedBlocks, stateWith, added, tagOfState}
-use Rattle.stream.specs.Steps.{streamedAt}
+use Rattle.stream.specs.State.{start, allZero, writtenLimit, keptFits, fits, usedTail, tailOf, passedBlocks, stateWith, added, addedWork, tagOfState, tagOfStateWork, streamedAt, keptAt}
 use Rattle.stream.proofs.Laws.{Cut, cut, passed-more}
+use Rattle.demands.specs.Model.{chained}
 use Rattle.siv.proofs.Laws.{length-streamed}
 
 with-same : (s : Stream) {c c′ : List ℕ} {n n′ : ℕ} {t t′ : List ℕ} → c ≡ c′ → n ≡ n′ → t ≡ t′ → stateWith s c n (tailLength n) t ≡ stateWith s c′ n′ (tailLength n′) t′
@@ -42,13 +46,51 @@ zero-rest zero (suc m) = zero-rest zero m
 zero-rest (suc n) zero = refl
 zero-rest (suc n) (suc m) = zero-rest n m
 
+aes-sized : (key b : List ℕ) → length (aes key b) ≡ 16
+unfolding aes
+aes-sized key b = length-cipher _ _ b
+
+-- the key stream's own block is zero where none is begun
+pub begun-none : (E : List ℕ → List ℕ) (v : List ℕ) (n : ℕ) → (not (eqb (n % 16) 0) || allZero (begunBlock E v n)) ≡ true
+unfolding begunBlock allZero
+begun-none E v n = go (eqb (n % 16) 0)
+  where
+    go : (t : Bool) → (not t || allZero (cond t (replicate 16 0) (E (plus (clear v) (n / 16))))) ≡ true
+    go true = refl
+    go false = refl
+
+pub begun-zero : (E : List ℕ → List ℕ) (v : List ℕ) → begunBlock E v 0 ≡ zeros
+unfolding begunBlock
+begun-zero E v = refl
+
+-- the work of a piece is that of the blocks that it begins
+pub piece-work : (place n : ℕ) → pieceWork place n ≡ sixteenths (place + n) - sixteenths place
+unfolding pieceWork
+piece-work place n = stream-work _
+
+-- the chain has taken the blocks before the tail, and the tag takes the others
+passed-chained : (n : ℕ) → passedBlocks n ≡ chained n
+unfolding passedBlocks
+passed-chained n = go (decLt n 16)
+  where
+    go : Dec (n < 16) → (n - tailLength n) / 16 ≡ chained n
+    go (yes h) = let e : tailLength n ≡ n = tail-short n h in omega arith
+    go (no h) = let e : tailLength n ≡ 16 + n % 16 = tail-long n (omega arith) in omega arith
+
+left : (n : ℕ) → blocksOf (tailLength n) ≡ blocksOf n - chained n
+left n = go (decLt n 16)
+  where
+    go : Dec (n < 16) → blocksOf (tailLength n) ≡ blocksOf n - chained n
+    go (yes h) = let e : tailLength n ≡ n = tail-short n h in omega arith
+    go (no h) = let e : tailLength n ≡ 16 + n % 16 = tail-long n (omega arith) in omega arith
+
 module _ (key : List ℕ) (ss : List (List ℕ)) where
   E : List ℕ → List ℕ
   E = cipher (length key / 2) (roundKeys (macKey key))
 
-  -- the state in a stage, with a tag, a count of written bytes and the plaintext P
-  abbrev pub stateOf : ℕ → List ℕ → ℕ → List ℕ → Stream
-  stateOf stage v written P =
+  -- the state in a stage, with a tag, a kept block, a count of written bytes and the plaintext P
+  abbrev pub stateOf : ℕ → List ℕ → List ℕ → ℕ → List ℕ → Stream
+  stateOf stage v kept written P =
       record {
         stage = stage;
         width = length key / 2;
@@ -58,17 +100,28 @@ module _ (key : List ℕ) (ss : List (List ℕ)) where
         d = headerResult (cipher (length key / 2) (roundKeys (macKey key))) (subkeys (zeroCipher (cipher (length key / 2) (roundKeys (macKey key))))) ss;
         chain = chain (cipher (length key / 2) (roundKeys (macKey key))) zeros P (passedBlocks (length P));
         v = v;
+        kept = kept;
         total = length P;
         written = written;
         «tail_len» = tailLength (length P);
         tail = tailOf (drop (16 * passedBlocks (length P)) P);
       }
 
-  pub begin-state : (stage : ℕ) (v : List ℕ) → start (headOf key ss) stage v ≡ stateOf stage v 0 []
+  -- the states that the model knows: while A is added; while W is written of it; and while P is what was fed, deciphered
+  abbrev pub addingState : List ℕ → Stream
+  addingState A = stateOf 1 zeros zeros 0 A
+
+  abbrev pub writingState : List ℕ → List ℕ → Stream
+  writingState A W = stateOf 2 (tagOf key ss A) (begunBlock (aes (ctrKey key)) (tagOf key ss A) (length W)) (length W) A
+
+  abbrev pub feedingState : List ℕ → List ℕ → Stream
+  feedingState T P = stateOf 3 T (begunBlock (aes (ctrKey key)) T (length P)) 0 P
+
+  pub begin-state : (stage : ℕ) (v : List ℕ) → start (headOf key ss) stage v ≡ stateOf stage v zeros 0 []
   unfolding headOf chain passedBlocks tailLength put
   begin-state stage v = refl
 
-  module _ (stage : ℕ) (v : List ℕ) (written : ℕ) (A : List ℕ) where
+  module _ (stage : ℕ) (v kept : List ℕ) (written : ℕ) (A : List ℕ) where
     before : ℕ
     before = 16 * passedBlocks (length A)
 
@@ -80,14 +133,14 @@ module _ (key : List ℕ) (ss : List (List ℕ)) where
     room = let c : Cut (length A) = cut (length A) in omega (arith, long, length-replicate {A = ℕ} 31 0)
 
     -- the tail's used bytes are the plaintext's last
-    tail-state : usedTail (stateOf stage v written A) ≡ drop before A
+    tail-state : usedTail (stateOf stage v kept written A) ≡ drop before A
     unfolding before
     tail-state =
         let count : tailLength (length A) ≡ 0 + length (drop before A) = omega (arith, long) in
         ap (λ (n : ℕ). take n (tailOf (drop before A))) count ∙ take-put (replicate 31 0) 0 (drop before A) room
 
     -- a piece more
-    pub join : (B : List ℕ) → added (stateOf stage v written A) B ≡ stateOf stage v written (A ++ B)
+    pub join : (B : List ℕ) → added (stateOf stage v kept written A) B ≡ stateOf stage v kept written (A ++ B)
     unfolding added E before
     join B =
         let p : ℕ = passedBlocks (length A) in
@@ -96,15 +149,20 @@ module _ (key : List ℕ) (ss : List (List ℕ)) where
         let total : length A + length B ≡ length (A ++ B) = sym (length-append A B) in
         let more : p + n ≡ passedBlocks (length A + length B) = omega (arith, passed-more (length A) (length B)) in
         let blocks : p + n ≡ passedBlocks (length (A ++ B)) = more ∙ ap passedBlocks total in
-        let text : usedTail (stateOf stage v written A) ++ B ≡ drop (16 * p) (A ++ B) = ap (λ (l : List ℕ). l ++ B) tail-state ∙ sym (drop-append-le (16 * p) A B (omega arith)) in
+        let text : usedTail (stateOf stage v kept written A) ++ B ≡ drop (16 * p) (A ++ B) = ap (λ (l : List ℕ). l ++ B) tail-state ∙ sym (drop-append-le (16 * p) A B (omega arith)) in
         let place : 16 * p + 16 * n ≡ 16 * passedBlocks (length (A ++ B)) = omega arith in
-        with-same (stateOf stage v written A)
+        with-same (stateOf stage v kept written A)
         (ap₂ (λ (x t : List ℕ). chain E x t n) (sym (chain-front E zeros A B p (omega arith))) text ∙ sym (chain-add E zeros (A ++ B) p n) ∙ ap (chain E zeros (A ++ B)) blocks)
         total
         (ap (λ (t : List ℕ). tailOf (drop (16 * n) t)) text
         ∙ ap tailOf (drop-drop (16 * n) (16 * p) (A ++ B) ∙ ap (λ (k : ℕ). drop k (A ++ B)) place))
 
-    unused : allZero (drop (tailLength (length A)) (stateOf stage v written A .tail)) ≡ true
+    -- its work is that of the blocks that join the chain
+    pub join-work : (n : ℕ) → addedWork (stateOf stage v kept written A) n ≡ chained (length A + n) - chained (length A)
+    unfolding addedWork
+    join-work n = chain-work _ ∙ ap₂ _-_ (passed-chained (length A + n)) (passed-chained (length A))
+
+    unused : allZero (drop (tailLength (length A)) (stateOf stage v kept written A .tail)) ≡ true
     unfolding before
     unused =
         let count : tailLength (length A) ≡ 0 + length (drop before A) = omega (arith, long) in
@@ -117,40 +175,61 @@ module _ (key : List ℕ) (ss : List (List ℕ)) where
     h = halves (length key) keyed
 
     -- the state is one for the calls that want its stage
-    pub fits-state : (stage : ℕ) (v : List ℕ) (written : ℕ) (P : List ℕ) → length P ≤ limit → written ≤ writtenLimit stage (length P) → fits stage (stateOf stage v written P) ≡ true
+    pub fits-state : (stage : ℕ) (v kept : List ℕ) (written : ℕ) (P : List ℕ) → length P ≤ limit → written ≤ writtenLimit stage (length P)
+        → keptFits stage (stateOf stage v kept written P) ≡ true → fits stage (stateOf stage v kept written P) ≡ true
     unfolding fits
-    fits-state stage v written P total most =
+    fits-state stage v kept written P total most whole =
         simp (
           eq-eqb stage stage refl,
           h .half,
           le-ltb limit (length P) total,
           le-ltb (writtenLimit stage (length P)) written most,
           eq-eqb (tailLength (length P)) (tailLength (length P)) refl,
+          whole,
         )
-        (unused stage v written P)
+        (unused stage v kept written P)
 
     -- V of the state is V of its plaintext
-    pub tag-state : (stage : ℕ) (v : List ℕ) (written : ℕ) (P : List ℕ) → tagOfState (stateOf stage v written P) ≡ tagOf key ss P
+    pub tag-state : (stage : ℕ) (v kept : List ℕ) (written : ℕ) (P : List ℕ) → tagOfState (stateOf stage v kept written P) ≡ tagOf key ss P
     unfolding tagOfState tagOf s2v passedBlocks before E
-    tag-state stage v written P =
+    tag-state stage v kept written P =
         let at : ℕ = length P - tailLength (length P) in
         let t : Tail (length P) = tail (length P) in
         let whole : 16 * (at / 16) ≡ at = t .blocks in
         let k : Subkeys = subkeys (zeroCipher E) in
         let d : List ℕ = headerResult E k ss in
         let front : length key / 2 ≡ length (macKey key) = simp length-take (omega arith) in
-        ap (tagFrom E k d (chain E zeros P (at / 16))) (tail-state stage v written P ∙ ap (λ (n : ℕ). drop n P) whole)
+        ap (tagFrom E k d (chain E zeros P (at / 16))) (tail-state stage v kept written P ∙ ap (λ (n : ℕ). drop n P) whole)
         ∙ sym (tag-tail E k d P at refl)
         ∙ ap (λ (F : List ℕ → List ℕ). s2v F ss P) (aes-cipher (macKey key) front refl)
 
-    -- the state's key stream is that of its tag
+    -- its work is what the chain leaves of the plaintext's blocks
+    pub tag-state-work : (stage : ℕ) (v kept : List ℕ) (written : ℕ) (P : List ℕ) → tagOfStateWork (stateOf stage v kept written P) ≡ blocksOf (length P) - chained (length P)
+    unfolding tagOfStateWork before E
+    tag-state-work stage v kept written P =
+        let d : List ℕ = headerResult E (subkeys (zeroCipher E)) ss in
+        tag-lengths d (usedTail (stateOf stage v kept written P)) (length-headerResult E (length-cipher _ _) (subkeys (zeroCipher E)) ss)
+        ∙ ap (λ (t : List ℕ). blocksOf (length t)) (tail-state stage v kept written P)
+        ∙ ap blocksOf (long stage v kept written P)
+        ∙ left (length P)
+
+    -- the state's cipher for the key stream is AES under the key's second half
+    stream-cipher : cipher (length key / 2) (roundKeys (ctrKey key)) ≡ aes (ctrKey key)
+    stream-cipher = let k : KeyHalves (length key) = h in aes-cipher (ctrKey key) (simp length-drop (omega arith)) refl
+
+    -- with the key stream's own block kept, a piece is xored with the key stream of its tag
     pub stream-state : (stage : ℕ) (v : List ℕ) (written : ℕ) (P : List ℕ) (place : ℕ) (s : List ℕ)
-        → streamedAt (stateOf stage v written P) place s ≡ xorStream (aes (ctrKey key)) v place s
+        → streamedAt (stateOf stage v (begunBlock (aes (ctrKey key)) v place) written P) place s ≡ xorStream (aes (ctrKey key)) v place s
     unfolding streamedAt
     stream-state stage v written P place s =
-        let k : KeyHalves (length key) = h in
-        let back : length key / 2 ≡ length (ctrKey key) = simp length-drop (omega arith) in
-        ap (λ (F : List ℕ → List ℕ). xorStream F v place s) (aes-cipher (ctrKey key) back refl)
+        ap (λ (F : List ℕ → List ℕ). xorPiece F v (begunBlock (aes (ctrKey key)) v place) place s) stream-cipher ∙ xorPiece-own (aes (ctrKey key)) (aes-sized (ctrKey key)) v place s
+
+    -- and its own block is kept again
+    pub kept-state : (stage : ℕ) (v : List ℕ) (written : ℕ) (P : List ℕ) (place n : ℕ)
+        → keptAt (stateOf stage v (begunBlock (aes (ctrKey key)) v place) written P) place n ≡ begunBlock (aes (ctrKey key)) v (place + n)
+    unfolding keptAt
+    kept-state stage v written P place n =
+        ap (λ (F : List ℕ → List ℕ). keptAfter F v (begunBlock (aes (ctrKey key)) v place) place n) stream-cipher ∙ keptAfter-own (aes (ctrKey key)) (aes-sized (ctrKey key)) v place n
 
 -- ---- the key stream over a string cut in two
 

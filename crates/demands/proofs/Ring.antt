@@ -1,30 +1,42 @@
 -- Slip 1's promises hold: a ring opens what one of its keys opens, with the smallest such slot.
 -- Assumes nothing.
-use mathlib.Core.Path.{_≡_, refl, ap, sym, subst, _∙_}
-use mathlib.Core.Bool.{Bool, true, false, false≢true, and-false}
+use mathlib.Core.Path.{_≡_, refl, ap, ap₂, sym, subst, _∙_}
+use mathlib.Core.Bool.{Bool, true, false, false≢true, cond, and-false}
 use mathlib.Core.List.{List}
-use Prim.Native.Nat.{ℕ, _-_, _≤_, _<_}
+use Prim.Native.Nat.{ℕ, _+_, _-_, _*_, _≤_, _<_}
 use native.Mathlib.Decide.{decLe}
-use native.Mathlib.Nat.{zero-mul}
+use native.Mathlib.Nat.{add-zero, zero-mul}
 use native.Mathlib.Omega.{arith}
 use lib.Dec.{eqb}
 use lib.ListN.{length, take, drop}
 use lib.Seq.{take-length}
 use borrow.Author.Tests.{eqb-true, eq-eqb, ne-eqb}
-use Rattle.header.specs.Header.{total}
+use Rattle.header.specs.Header.{total, strings}
 use Rattle.siv.specs.Answer.{Outcome, first}
-use Rattle.siv.specs.Calls.{isKeyLength, scratchNeed, openNumber, openCall}
-use Rattle.siv.specs.Ring.{isRing, slotCount, slotKey, ringRows, RingResult, openSlot, openRing}
-use Rattle.siv.proofs.Ring.{key-length-some, whole-ring, slot-keyed, Chosen, found, none, chosen-within, opensAt, withSlot, Comes, goes, stops, ring-comes}
+use Rattle.siv.specs.Calls.{isKeyLength, limit, scratchNeed, openNumber, openCall}
+use Rattle.siv.specs.Ring.{isRing, slotCount, slotKey, ringRows, triedWork, RingResult, openSlot, opensAt, workAt, openSlotWith, openRing}
+use Rattle.siv.specs.Work.{blockWork}
+use Rattle.siv.proofs.Ring.{key-length-some, whole-ring, slot-keyed, Chosen, found, none, chosen-within, Comes, goes, stops, ring-comes, ring-work}
 use Rattle.kinphlor.specs.Interface.{aeadLens, emptyNonce, fromC, openFromC, emptyNonceRing, openRingFromC}
 use Rattle.demands.specs.Ring.{IsRing, Opens, BySlot, SealsUnder, ThirdRing, Ring}
-use Rattle.demands.specs.Whole.{Gives, ThirdWhole}
-use Rattle.demands.proofs.Whole.{accepts-the-sealed}
+use Rattle.demands.specs.Whole.{Admits, ThirdWhole}
+use Rattle.demands.proofs.Siv.{length-sealed}
+use Rattle.demands.proofs.Whole.{judged, accepts-the-sealed}
+
+-- what the ring's call comes to with the slot given, of so many
+abbrev given : ℕ → ℕ → List ℕ → List ℕ → List ℕ → List ℕ → List ℕ → List ℕ → ℕ → RingResult
+given keyLength slots ring bytes lens input output scratch s =
+    record {
+      slot = s;
+      call =
+          openSlotWith keyLength ring bytes lens input output scratch s
+          (triedWork (opensAt keyLength ring bytes lens input output scratch) (workAt keyLength ring bytes lens input output scratch) 0 slots);
+    }
 
 module _ (keyLength slots : ℕ) (ring bytes lens input output scratch : List ℕ) (r : IsRing keyLength slots ring) where
   -- what holds of whole opening with the slot given holds of the ring's call
   by-given : (P : RingResult → Type 0)
-      → ((s : ℕ) → Chosen (opensAt keyLength ring bytes lens input output scratch) slots s → P (withSlot keyLength ring bytes lens input output scratch s))
+      → ((s : ℕ) → Chosen (opensAt keyLength ring bytes lens input output scratch) slots s → P (given keyLength slots ring bytes lens input output scratch s))
       → P (openRing keyLength ring bytes lens input output scratch)
   by-given P f = go (ring-comes keyLength ring bytes lens input output scratch)
     where
@@ -32,14 +44,15 @@ module _ (keyLength slots : ℕ) (ring bytes lens input output scratch : List �
       is = whole-ring keyLength slots (length ring) (key-length-some keyLength (r .keyed)) (r .whole) (r .some) (r .most)
 
       go : {result : RingResult} → Comes keyLength ring bytes lens input output scratch (first (ringRows keyLength (length ring))) result → P result
-      go (goes {s} z g) = f s (subst (λ (n : ℕ). Chosen (opensAt keyLength ring bytes lens input output scratch) n s) (is .1) g)
+      go (goes {s} z g) =
+          subst P (ap (λ (n : ℕ). given keyLength n ring bytes lens input output scratch s) (sym (is .1))) (f s (subst (λ (n : ℕ). Chosen (opensAt keyLength ring bytes lens input output scratch) n s) (is .1) g))
       go (stops z) = absurd (z (simp (r .keyed, is .0)))
 
 -- ---- the slot
 
 module _ (keyLength slots : ℕ) (ring bytes lens input output scratch : List ℕ) where
   by-slot : 1 ≤ slots → (s : ℕ) → Chosen (opensAt keyLength ring bytes lens input output scratch) slots s
-      → BySlot keyLength slots ring bytes lens input output scratch (withSlot keyLength ring bytes lens input output scratch s)
+      → BySlot keyLength slots ring bytes lens input output scratch (given keyLength slots ring bytes lens input output scratch s)
   by-slot some s g = record { within = chosen-within _ slots some g; single = refl; smallest = smallest g; otherwise = otherwise g }
     where
       -- a slot that opens does not fail the test
@@ -66,6 +79,11 @@ module _ (key bytes lens input output scratch : List ℕ) where
   slot-zero : slotKey (length key) key 0 ≡ key
   slot-zero = ap (λ (n : ℕ). take (length key) (drop n key)) (zero-mul (length key)) ∙ take-length key
 
+  -- after one key nothing is added
+  one : (t : Bool) (w : ℕ) → w + cond t 0 0 ≡ w
+  one true w = add-zero w
+  one false w = add-zero w
+
   -- a length that is no key length gives 1 from both
   refused : isKeyLength (length key) ≡ false → openRing (length key) key bytes lens input output scratch ≡ record { slot = 0; call = openCall key bytes lens input output scratch }
   unfolding openRing openCall openNumber
@@ -80,7 +98,8 @@ module _ (key bytes lens input output scratch : List ℕ) where
           (λ r. r ≡ record { slot = 0; call = openCall key bytes lens input output scratch })
           (λ s g.
           let at : s ≡ 0 = omega (arith, chosen-within _ 1 (omega arith) g) in
-          ap (withSlot (length key) key bytes lens input output scratch) at
+          ap (given (length key) 1 key bytes lens input output scratch) at
+          ∙ ap (λ (w : ℕ). record { slot = 0; call = openSlotWith (length key) key bytes lens input output scratch 0 w }) (one (opensAt (length key) key bytes lens input output scratch 0) _)
           ∙ ap (λ (k : List ℕ). record { slot = 0; call = openCall k bytes lens input output scratch }) slot-zero)
       go false k = refused k
 
@@ -113,11 +132,12 @@ one-key-from-c key header input output scratch ad nonce = go (isKeyLength (lengt
 
 module _ (keyLength slots : ℕ) (ring bytes lens y output scratch : List ℕ) (r : IsRing keyLength slots ring) (few : length lens ≤ 126) (listed : total lens ≡ length bytes)
     (roomy : length y - 16 ≤ length output) (scratchy : scratchNeed (length y - 16) ≤ length scratch) where
+  admits : (i : ℕ) → i < slots → Admits (slotKey keyLength ring i) bytes lens
+  admits i h = record { keyed = slot-keyed keyLength slots ring i (r .keyed) (r .whole) h; few = few; listed = listed }
+
   -- the third demand for each slot's key
   by-key : (i : ℕ) → i < slots → ThirdWhole (slotKey keyLength ring i) bytes lens y output scratch
-  by-key i h =
-      accepts-the-sealed (slotKey keyLength ring i) bytes lens y output scratch
-      (record { keyed = slot-keyed keyLength slots ring i (r .keyed) (r .whole) h; few = few; listed = listed }) roomy scratchy
+  by-key i h = accepts-the-sealed (slotKey keyLength ring i) bytes lens y output scratch (admits i h) roomy scratchy
 
   opens-sealed : (i : ℕ) (P : List ℕ) → SealsUnder keyLength slots ring bytes lens y i P → Opens keyLength slots ring bytes lens y output scratch i
   opens-sealed i P (h, p) = (h, ap (λ (o : Outcome). o .number) (by-key i h .accepted P p .0))
@@ -139,16 +159,47 @@ module _ (keyLength slots : ℕ) (ring bytes lens y output scratch : List ℕ) (
         go (yes l) h = omega arith
         go (no l) h = absurd (by-key s within .refuses (λ Q q. l (least s Q (within, q))) (smallest i P p .0 .1))
 
-    third-ring : ThirdRing keyLength slots ring bytes lens y output (withSlot keyLength ring bytes lens y output scratch s)
+    -- the work of all keys that were tried
+    tried : ℕ
+    tried = triedWork (opensAt keyLength ring bytes lens y output scratch) (workAt keyLength ring bytes lens y output scratch) 0 slots
+
+    work : 16 ≤ length y → length y ≤ limit + 16 → tried ≡ cond (opensAt keyLength ring bytes lens y output scratch s) (s + 1) slots * blockWork lens (length y - 16)
+    unfolding tried
+    work tagged limited =
+        subst
+        (λ (n : ℕ). Chosen (opensAt keyLength ring bytes lens y output scratch) n s
+        → triedWork (opensAt keyLength ring bytes lens y output scratch) (workAt keyLength ring bytes lens y output scratch) 0 n
+        ≡ cond (opensAt keyLength ring bytes lens y output scratch s) (s + 1) n * blockWork lens (length y - 16))
+        (is .1)
+        (λ c. ring-work keyLength ring bytes lens y output scratch (simp (r .keyed, is .0)) c (judged (slotKey keyLength ring s) bytes lens y output scratch (admits s within) roomy scratchy tagged limited))
+        g
+      where
+        is : (isRing keyLength (length ring) ≡ true) × (slotCount keyLength (length ring) ≡ slots)
+        is = whole-ring keyLength slots (length ring) (key-length-some keyLength (r .keyed)) (r .whole) (r .some) (r .most)
+
+    -- the outcome of the slot given, with that work
+    outcome : {o : Outcome} {w : ℕ} → openSlot keyLength ring bytes lens y output scratch s .outcome ≡ o → tried ≡ w
+        → given keyLength slots ring bytes lens y output scratch s .call .outcome ≡ record { number = o .number; count = o .count; work = w }
+    unfolding tried
+    outcome e f = ap₂ (λ (o : Outcome) (w : ℕ). record { number = o .number; count = o .count; work = w }) e f
+
+    third-ring : ThirdRing keyLength slots ring bytes lens y output (given keyLength slots ring bytes lens y output scratch s)
     third-ring =
         record {
           accepts = λ P p. ((within, by-key s within .accepts P p), λ j Q q. smallest j Q q .1);
           accepted = λ i P p least.
               let at : s ≡ i = is-first i P p least in
-              (subst (λ (j : ℕ). Gives (openSlot keyLength ring bytes lens y output scratch j) output P) (sym at) (by-key i (p .0) .accepted P (p .1)), at);
+              let gives = by-key s within .accepted P (subst (λ (j : ℕ). SealsUnder keyLength slots ring bytes lens y j P) (sym at) p .1) in
+              let long : length y ≡ length P + 16 = ap length (sym (p .1 .1)) ∙ length-sealed (slotKey keyLength ring i) (strings bytes lens) P in
+              let count : length y - 16 ≡ length P = omega arith in
+              let all = work (omega arith) (omega (arith, p .1 .0)) ∙ ap (λ (t : Bool). cond t (s + 1) slots * blockWork lens (length y - 16)) (eq-eqb _ 0 (ap (λ (o : Outcome). o .number) (gives .0))) in
+              ((outcome (gives .0) (all ∙ ap₂ (λ (j n : ℕ). (j + 1) * blockWork lens n) at count), gives .1), at);
           opens = λ i P p. smallest i P p .0 .1;
           refuses = λ never. by-key s within .refuses (λ P p. never s P (within, p));
-          wipes = λ never. by-key s within .wipes (λ P p. never s P (within, p));
+          wipes = λ never tagged limited.
+              let wiped = by-key s within .wipes (λ P p. never s P (within, p)) tagged limited in
+              let closed = ne-eqb _ 0 (by-key s within .refuses (λ P p. never s P (within, p))) in
+              (outcome (wiped .0) (work tagged limited ∙ ap (λ (t : Bool). cond t (s + 1) slots * blockWork lens (length y - 16)) closed), wiped .1);
         }
 
 pub opens-by-the-smallest-slot : Ring

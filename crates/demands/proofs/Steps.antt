@@ -3,7 +3,7 @@
 use mathlib.Core.Path.{_≡_, refl, ap, ap₂, sym, subst, _∙_}
 use mathlib.Core.Bool.{Bool, true, false, not, cond}
 use mathlib.Core.List.{List, [], _++_}
-use Prim.Native.Nat.{ℕ, _+_, _≤_}
+use Prim.Native.Nat.{ℕ, _+_, _-_, _≤_}
 use native.Mathlib.Omega.{arith}
 use lib.Dec.{eqb, ltb}
 use lib.ListN.{length, take, drop, replicate, length-append, length-replicate}
@@ -14,18 +14,20 @@ use Rattle.octets.proofs.Strings.{length-put, put-put}
 use Rattle.aes.specs.Aes.{aes}
 use Rattle.cmac.specs.Cmac.{zeros}
 use Rattle.header.specs.Header.{strings}
-use Rattle.ctr.specs.Counter.{xorStream}
-use Rattle.siv.specs.Answer.{first, withoutLength}
+use Rattle.ctr.specs.Counter.{xorStream, begunBlock, pieceWork}
+use Rattle.siv.specs.Answer.{first, success, withoutLength, forged}
 use Rattle.siv.specs.Calls.{limit, scratchNeed}
 use Rattle.siv.specs.Siv.{ctrKey, tagOf, streamed, opened, genuine}
+use Rattle.siv.specs.Work.{sixteenths, blocksOf}
 use Rattle.siv.proofs.Laws.{none-where, by-tag, length-streamed, put-over}
 use Rattle.stream.specs.declared.Stream.{Stream}
-use Rattle.stream.specs.State.{ended, fits, added, tagOfState}
-use Rattle.stream.specs.Steps.{StepResult, doneStep, refusedStep, settle, feedRows, turned, streamedAt, addStep, turnStep, writeStep, closeStep, feedStep, finishStep}
-use Rattle.demands.specs.Model.{ModelState, wants, After, wholeAccepts, shown, outputBefore, outputAfter, modelAfter, countAfter, modelStep}
+use Rattle.stream.specs.State.{ended, allZero, keptFits, fits, added, addedWork, tagOfState, tagOfStateWork, streamedAt, streamedWith}
+use Rattle.stream.specs.Steps.{StepResult, doneStep, refusedStep, settle, feedRows, turned, wrote, deciphered, addStep, turnStep, writeStep, closeStep, feedStep, forgedStep, finishStep}
+use Rattle.stream.proofs.Laws.{length-streamedAt}
+use Rattle.demands.specs.Model.{ModelState, wants, chained, After, wholeAccepts, shown, outputBefore, outputAfter, modelAfter, countAfter, workAfter, modelStep}
 use Rattle.demands.specs.Run.{Begin, sealer, opener, Call, add, turn, write, close, feed, finish, call, lent, sharedAfter}
 use Rattle.demands.specs.Whole.{Admits}
-use Rattle.demands.proofs.Pieces.{stateOf, join, fits-state, tag-state, stream-state, streamed-append, streamed-rest}
+use Rattle.demands.proofs.Pieces.{begun-none, begun-zero, piece-work, stateOf, addingState, writingState, feedingState, join, join-work, fits-state, tag-state, tag-state-work, stream-state, kept-state, streamed-append, streamed-rest}
 use Rattle.demands.proofs.Whole.{judged}
 
 -- ---- a call in a stage that it does not want
@@ -66,12 +68,12 @@ modelOf stage A W = record { stage = stage; A = A; W = W }
 
 -- a state and a shared output that the model knows by what it keeps
 pub data Known (key bytes lens shared : List ℕ) : Begin → ModelState → Stream → List ℕ → Type 0 where
-  adding : (A : List ℕ) → length A ≤ limit → Known key bytes lens shared sealer (modelOf 1 A []) (stateOf key (strings bytes lens) 1 zeros 0 A) shared
+  adding : (A : List ℕ) → length A ≤ limit → Known key bytes lens shared sealer (modelOf 1 A []) (addingState key (strings bytes lens) A) shared
   writing : (A W : List ℕ) → length A ≤ limit → length W ≤ length A
-      → Known key bytes lens shared sealer (modelOf 2 A W) (stateOf key (strings bytes lens) 2 (tagOf key (strings bytes lens) A) (length W) A) shared
+      → Known key bytes lens shared sealer (modelOf 2 A W) (writingState key (strings bytes lens) A W) shared
   closed : (A W : List ℕ) → Known key bytes lens shared sealer (modelOf 0 A W) ended shared
   feeding : (T A : List ℕ) → length T ≡ 16 → length A ≤ limit → length A ≤ length shared
-      → Known key bytes lens shared (opener T) (modelOf 3 A []) (stateOf key (strings bytes lens) 3 T 0 (streamed key T A)) (put shared 0 (streamed key T A))
+      → Known key bytes lens shared (opener T) (modelOf 3 A []) (feedingState key (strings bytes lens) T (streamed key T A)) (put shared 0 (streamed key T A))
   finished : (T A o : List ℕ) → o ≡ shown key bytes lens (opener T) shared (modelOf 0 A []) → Known key bytes lens shared (opener T) (modelOf 0 A []) ended o
 
 module _ (key bytes lens shared : List ℕ) (a : Admits key bytes lens) where
@@ -105,7 +107,7 @@ module _ (key bytes lens shared : List ℕ) (a : Admits key bytes lens) where
         model = modelAfter key bytes lens begin shared b c;
         entry =
             record {
-              outcome = record { number = n; count = cond (eqb n 0) (countAfter key bytes lens begin shared b c) 0 };
+              outcome = record { number = n; count = cond (eqb n 0) (countAfter key bytes lens begin shared b c) 0; work = workAfter key bytes lens begin shared b c };
               output = outputAfter key bytes lens begin shared b c;
             };
       }
@@ -147,39 +149,49 @@ module _ (key bytes lens shared : List ℕ) (a : Admits key bytes lens) where
 
   module _ (A : List ℕ) (within : length A ≤ limit) where
     S : Stream
-    S = stateOf key ss 1 zeros 0 A
+    S = addingState key ss A
 
     b : ModelState
     b = modelOf 1 A []
 
+    kept : keptFits 1 (addingState key ss A) ≡ true
+    unfolding keptFits allZero
+    kept = refl
+
     fitting : fits 1 S ≡ true
     unfolding S
-    fitting = fits-state key ss (a .keyed) 1 zeros 0 A within (omega arith)
+    fitting = fits-state key ss (a .keyed) 1 zeros zeros 0 A within (omega arith) kept
 
-    add-step : (piece : List ℕ) → Steps sealer (modelOf 1 A []) (stateOf key (strings bytes lens) 1 zeros 0 A) shared (add piece)
+    add-step : (piece : List ℕ) → Steps sealer (modelOf 1 A []) (addingState key (strings bytes lens) A) shared (add piece)
     unfolding addStep modelStep S ss b
     add-step piece = go (ltb limit (length A + length piece)) refl
       where
         total : length (A ++ piece) ≡ length A + length piece
         total = length-append A piece
 
-        go : (t : Bool) → ltb limit (length A + length piece) ≡ t → Steps sealer (modelOf 1 A []) (stateOf key (strings bytes lens) 1 zeros 0 A) shared (add piece)
+        work : addedWork S (length piece) ≡ chained (length (A ++ piece)) - chained (length A)
+        work = join-work key ss 1 zeros zeros 0 A (length piece) ∙ ap (λ (n : ℕ). chained n - chained (length A)) (sym total)
+
+        go : (t : Bool) → ltb limit (length A + length piece) ≡ t → Steps sealer (modelOf 1 A []) (addingState key (strings bytes lens) A) shared (add piece)
         go true e = steps sealer b S shared (add piece) (refusedStep 4 S []) (refusedAfter sealer b (add piece) 4) (simp (fitting, e)) (simp (total, e)) refl (adding A within)
         go false e =
-            steps sealer b S shared (add piece) (doneStep 0 (stateOf key ss 1 zeros 0 (A ++ piece)) []) (doneAfter sealer b (add piece) 0)
-            (simp (fitting, e) (ap (λ (s : Stream). doneStep 0 s []) (join key ss 1 zeros 0 A piece))) (simp (total, e)) refl
+            steps sealer b S shared (add piece) (doneStep 0 (workAfter key bytes lens sealer shared b (add piece)) (addingState key ss (A ++ piece)) []) (doneAfter sealer b (add piece) 0)
+            (simp (fitting, e) (ap₂ (λ (w : ℕ) (s : Stream). doneStep 0 w s []) work (join key ss 1 zeros zeros 0 A piece))) (simp (total, e)) refl
             (adding (A ++ piece) (omega (arith, total, ltb-false limit (length A + length piece) e)))
 
-    turn-step : (output : List ℕ) → Steps sealer (modelOf 1 A []) (stateOf key (strings bytes lens) 1 zeros 0 A) shared (turn output)
+    turn-step : (output : List ℕ) → Steps sealer (modelOf 1 A []) (addingState key (strings bytes lens) A) shared (turn output)
     unfolding turnStep modelStep S ss b
     turn-step output = go (ltb (length output) 16) refl
       where
-        go : (t : Bool) → ltb (length output) 16 ≡ t → Steps sealer (modelOf 1 A []) (stateOf key (strings bytes lens) 1 zeros 0 A) shared (turn output)
+        go : (t : Bool) → ltb (length output) 16 ≡ t → Steps sealer (modelOf 1 A []) (addingState key (strings bytes lens) A) shared (turn output)
         go true e = steps sealer b S shared (turn output) (refusedStep 6 S output) (refusedAfter sealer b (turn output) 6) (simp (fitting, e)) (simp e) refl (adding A within)
         go false e =
             let v : List ℕ = tagOf key ss A in
-            steps sealer b S shared (turn output) (doneStep 16 (turned S v) (put output 0 v)) (doneAfter sealer b (turn output) 0)
-            (simp (fitting, e) (ap (λ (x : List ℕ). doneStep 16 (turned S x) (put output 0 x)) (tag-state key ss (a .keyed) 1 zeros 0 A))) (simp e) refl
+            let none : begunBlock (aes (ctrKey key)) v 0 ≡ zeros = begun-zero (aes (ctrKey key)) v in
+            steps sealer b S shared (turn output) (doneStep 16 (workAfter key bytes lens sealer shared b (turn output)) (writingState key ss A []) (put output 0 v)) (doneAfter sealer b (turn output) 0)
+            (simp (fitting, e)
+            (ap₂ (λ (w : ℕ) (x : List ℕ). doneStep 16 w (turned S x) (put output 0 x)) (tag-state-work key ss (a .keyed) 1 zeros zeros 0 A) (tag-state key ss (a .keyed) 1 zeros zeros 0 A)
+            ∙ ap (λ (k : List ℕ). doneStep 16 (workAfter key bytes lens sealer shared b (turn output)) (stateOf key ss 2 v k 0 A) (put output 0 v)) (sym none))) (simp e) refl
             (writing A [] within (omega arith))
 
   module _ (A W : List ℕ) (within : length A ≤ limit) (shorter : length W ≤ length A) where
@@ -187,17 +199,21 @@ module _ (key bytes lens shared : List ℕ) (a : Admits key bytes lens) where
     v = tagOf key ss A
 
     SW : Stream
-    SW = stateOf key ss 2 v (length W) A
+    SW = writingState key ss A W
 
     bW : ModelState
     bW = modelOf 2 A W
 
+    keptW : keptFits 2 (writingState key ss A W) ≡ true
+    unfolding keptFits
+    keptW = begun-none (aes (ctrKey key)) (tagOf key ss A) (length W)
+
     fittingW : fits 2 SW ≡ true
-    unfolding SW
-    fittingW = fits-state key ss (a .keyed) 2 v (length W) A within shorter
+    unfolding SW v
+    fittingW = fits-state key ss (a .keyed) 2 v (begunBlock (aes (ctrKey key)) v (length W)) (length W) A within shorter keptW
 
     write-step : (piece output : List ℕ)
-        → Steps sealer (modelOf 2 A W) (stateOf key (strings bytes lens) 2 (tagOf key (strings bytes lens) A) (length W) A) shared (write piece output)
+        → Steps sealer (modelOf 2 A W) (writingState key (strings bytes lens) A W) shared (write piece output)
     unfolding writeStep modelStep SW ss bW v
     write-step piece output = go (ltb (length A) (length W + length piece)) refl (ltb (length output) (length piece)) refl
       where
@@ -207,8 +223,16 @@ module _ (key bytes lens shared : List ℕ) (a : Admits key bytes lens) where
         text : streamedAt SW (length W) piece ≡ drop (length W) (streamed key v (W ++ piece))
         text = stream-state key ss (a .keyed) 2 v (length W) A (length W) piece ∙ sym (streamed-rest key v W piece)
 
+        work : pieceWork (length W) (length piece) ≡ sixteenths (length (W ++ piece)) - sixteenths (length W)
+        work = piece-work (length W) (length piece) ∙ ap (λ (n : ℕ). sixteenths n - sixteenths (length W)) (sym total)
+
+        state : wrote SW (length piece) ≡ writingState key ss A (W ++ piece)
+        state =
+            ap (λ (k : List ℕ). streamedWith SW k (length W + length piece)) (kept-state key ss (a .keyed) 2 v (length W) A (length W) (length piece))
+            ∙ ap (λ (n : ℕ). stateOf key ss 2 v (begunBlock (aes (ctrKey key)) v n) n A) (sym total)
+
         go : (t : Bool) → ltb (length A) (length W + length piece) ≡ t → (u : Bool) → ltb (length output) (length piece) ≡ u
-            → Steps sealer (modelOf 2 A W) (stateOf key (strings bytes lens) 2 (tagOf key (strings bytes lens) A) (length W) A) shared (write piece output)
+            → Steps sealer (modelOf 2 A W) (writingState key (strings bytes lens) A W) shared (write piece output)
         go true e u f =
             steps sealer bW SW shared (write piece output) (refusedStep 4 SW output) (refusedAfter sealer bW (write piece output) 4) (simp (fittingW, e)) (simp (total, e)) refl
             (writing A W within shorter)
@@ -217,17 +241,20 @@ module _ (key bytes lens shared : List ℕ) (a : Admits key bytes lens) where
             (writing A W within shorter)
         go false e false f =
             let last : List ℕ = put output 0 (drop (length W) (streamed key v (W ++ piece))) in
-            steps sealer bW SW shared (write piece output) (doneStep (length piece) (stateOf key ss 2 v (length (W ++ piece)) A) last) (doneAfter sealer bW (write piece output) 0)
-            (simp (fittingW, e, f) (ap₂ (λ (n : ℕ) (x : List ℕ). doneStep (length piece) (stateOf key ss 2 v n A) (put output 0 x)) (sym total) text)) (simp (total, e, f)) refl
+            let w : ℕ = workAfter key bytes lens sealer shared bW (write piece output) in
+            steps sealer bW SW shared (write piece output) (doneStep (length piece) w (writingState key ss A (W ++ piece)) last) (doneAfter sealer bW (write piece output) 0)
+            (simp (fittingW, e, f)
+            (ap₂ (λ (n : ℕ) (s : Stream). doneStep (length piece) n s (put output 0 (streamedAt SW (length W) piece))) work state
+            ∙ ap (λ (x : List ℕ). doneStep (length piece) w (writingState key ss A (W ++ piece)) (put output 0 x)) text)) (simp (total, e, f)) refl
             (writing A (W ++ piece) within (omega (arith, total, ltb-false (length A) (length W + length piece) e)))
 
-    close-step : Steps sealer (modelOf 2 A W) (stateOf key (strings bytes lens) 2 (tagOf key (strings bytes lens) A) (length W) A) shared close
+    close-step : Steps sealer (modelOf 2 A W) (writingState key (strings bytes lens) A W) shared close
     unfolding closeStep modelStep SW ss bW v
     close-step = go (ltb (length W) (length A)) refl
       where
-        go : (t : Bool) → ltb (length W) (length A) ≡ t → Steps sealer (modelOf 2 A W) (stateOf key (strings bytes lens) 2 (tagOf key (strings bytes lens) A) (length W) A) shared close
+        go : (t : Bool) → ltb (length W) (length A) ≡ t → Steps sealer (modelOf 2 A W) (writingState key (strings bytes lens) A W) shared close
         go true e = steps sealer bW SW shared close (refusedStep 9 SW []) (refusedAfter sealer bW close 9) (simp (fittingW, e)) (simp e) refl (writing A W within shorter)
-        go false e = steps sealer bW SW shared close (doneStep 0 ended []) (doneAfter sealer bW close 0) (simp (fittingW, e)) (simp e) refl (closed A W)
+        go false e = steps sealer bW SW shared close (doneStep 0 0 ended []) (doneAfter sealer bW close 0) (simp (fittingW, e)) (simp e) refl (closed A W)
 
   -- ---- the opener's calls in the stage that they want
 
@@ -236,7 +263,7 @@ module _ (key bytes lens shared : List ℕ) (a : Admits key bytes lens) where
     P = streamed key T A
 
     SF : Stream
-    SF = stateOf key ss 3 T 0 P
+    SF = feedingState key ss T P
 
     bF : ModelState
     bF = modelOf 3 A []
@@ -252,11 +279,15 @@ module _ (key bytes lens shared : List ℕ) (a : Admits key bytes lens) where
     unfolding o
     longer = length-put shared 0 P (omega (arith, long))
 
+    keptF : keptFits 3 (feedingState key ss T P) ≡ true
+    unfolding keptFits
+    keptF = begun-none (aes (ctrKey key)) T (length P)
+
     fittingF : fits 3 SF ≡ true
     unfolding SF
-    fittingF = fits-state key ss (a .keyed) 3 T 0 P (omega (arith, long)) (omega arith)
+    fittingF = fits-state key ss (a .keyed) 3 T (begunBlock (aes (ctrKey key)) T (length P)) 0 P (omega (arith, long)) (omega arith) keptF
 
-    feed-step : (piece : List ℕ) → Steps (opener T) (modelOf 3 A []) (stateOf key (strings bytes lens) 3 T 0 (streamed key T A)) (put shared 0 (streamed key T A)) (feed piece)
+    feed-step : (piece : List ℕ) → Steps (opener T) (modelOf 3 A []) (feedingState key (strings bytes lens) T (streamed key T A)) (put shared 0 (streamed key T A)) (feed piece)
     unfolding feedStep modelStep SF ss bF P o
     feed-step piece = go (ltb limit (length A + length piece)) refl (ltb (length shared) (length A + length piece)) refl
       where
@@ -269,8 +300,22 @@ module _ (key bytes lens shared : List ℕ) (a : Admits key bytes lens) where
         joined : P ++ streamedAt SF (length P) piece ≡ streamed key T (A ++ piece)
         joined = ap (λ (x : List ℕ). P ++ x) text ∙ sym (streamed-append key T A piece)
 
-        state : added SF (streamedAt SF (length P) piece) ≡ stateOf key ss 3 T 0 (streamed key T (A ++ piece))
-        state = join key ss 3 T 0 P (streamedAt SF (length P) piece) ∙ ap (stateOf key ss 3 T 0) joined
+        count : length P + length piece ≡ length (P ++ streamedAt SF (length P) piece)
+        count = ap (λ (n : ℕ). length P + n) (sym (length-streamedAt SF (length P) piece)) ∙ sym (length-append P (streamedAt SF (length P) piece))
+
+        state : added (deciphered SF (length piece)) (streamedAt SF (length P) piece) ≡ feedingState key ss T (streamed key T (A ++ piece))
+        state =
+            ap (λ (k : List ℕ). added (streamedWith SF k 0) (streamedAt SF (length P) piece)) (kept-state key ss (a .keyed) 3 T 0 P (length P) (length piece))
+            ∙ join key ss 3 T (begunBlock (aes (ctrKey key)) T (length P + length piece)) 0 P (streamedAt SF (length P) piece)
+            ∙ ap (λ (n : ℕ). stateOf key ss 3 T (begunBlock (aes (ctrKey key)) T n) 0 (P ++ streamedAt SF (length P) piece)) count
+            ∙ ap (feedingState key ss T) joined
+
+        work : pieceWork (length P) (length piece) + addedWork SF (length piece)
+            ≡ (sixteenths (length (A ++ piece)) - sixteenths (length A)) + (chained (length (A ++ piece)) - chained (length A))
+        work =
+            ap₂ _+_ (piece-work (length P) (length piece)) (join-work key ss 3 T (begunBlock (aes (ctrKey key)) T (length P)) 0 P (length piece))
+            ∙ ap (λ (n : ℕ). (sixteenths (n + length piece) - sixteenths n) + (chained (n + length piece) - chained n)) long
+            ∙ ap (λ (n : ℕ). (sixteenths n - sixteenths (length A)) + (chained n - chained (length A))) (sym total)
 
         last : put o (length P) (streamedAt SF (length P) piece) ≡ put shared 0 (streamed key T (A ++ piece))
         last =
@@ -285,12 +330,16 @@ module _ (key bytes lens shared : List ℕ) (a : Admits key bytes lens) where
             ∙ ap₂ (λ (n m : ℕ). cond (ltb limit (n + length piece)) 4 (cond (ltb m (n + length piece)) 6 0)) long longer
 
         settled : (n : ℕ) → cond (ltb limit (length A + length piece)) 4 (cond (ltb (length shared) (length A + length piece)) 6 0) ≡ n
-            → call SF o (feed piece) ≡ settle n (doneStep (length piece) (stateOf key ss 3 T 0 (streamed key T (A ++ piece))) (put shared 0 (streamed key T (A ++ piece)))) SF o
+            → call SF o (feed piece)
+            ≡ settle n
+            (doneStep (length piece) (workAfter key bytes lens (opener T) shared bF (feed piece)) (feedingState key ss T (streamed key T (A ++ piece))) (put shared 0 (streamed key T (A ++ piece)))) SF o
         settled n e =
-            ap₂ (λ (k : ℕ) (r : StepResult). settle k r SF o) (number ∙ e) (ap₂ (λ (s : Stream) (x : List ℕ). doneStep (length piece) s x) state last)
+            ap₂ (λ (k : ℕ) (r : StepResult). settle k r SF o) (number ∙ e)
+            (ap₂ (λ (s : Stream) (x : List ℕ). doneStep (length piece) (pieceWork (length P) (length piece) + addedWork SF (length piece)) s x) state last
+            ∙ ap (λ (w : ℕ). doneStep (length piece) w (feedingState key ss T (streamed key T (A ++ piece))) (put shared 0 (streamed key T (A ++ piece)))) work)
 
         go : (t : Bool) → ltb limit (length A + length piece) ≡ t → (u : Bool) → ltb (length shared) (length A + length piece) ≡ u
-            → Steps (opener T) (modelOf 3 A []) (stateOf key (strings bytes lens) 3 T 0 (streamed key T A)) (put shared 0 (streamed key T A)) (feed piece)
+            → Steps (opener T) (modelOf 3 A []) (feedingState key (strings bytes lens) T (streamed key T A)) (put shared 0 (streamed key T A)) (feed piece)
         go true e u f =
             steps (opener T) bF SF o (feed piece) (refusedStep 4 SF o) (refusedAfter (opener T) bF (feed piece) 4) (settled 4 (simp e)) (simp (total, e)) refl
             (feeding T A tagged within roomy)
@@ -299,7 +348,7 @@ module _ (key bytes lens shared : List ℕ) (a : Admits key bytes lens) where
             (feeding T A tagged within roomy)
         go false e false f =
             steps (opener T) bF SF o (feed piece)
-            (doneStep (length piece) (stateOf key ss 3 T 0 (streamed key T (A ++ piece))) (put shared 0 (streamed key T (A ++ piece))))
+            (doneStep (length piece) (workAfter key bytes lens (opener T) shared bF (feed piece)) (feedingState key ss T (streamed key T (A ++ piece))) (put shared 0 (streamed key T (A ++ piece))))
             (doneAfter (opener T) bF (feed piece) 0) (settled 0 (simp (e, f))) (simp (total, e, f)) refl
             (feeding T (A ++ piece) tagged (omega (arith, total, ltb-false limit (length A + length piece) e)) (omega (arith, total, ltb-false (length shared) (length A + length piece) f)))
 
@@ -317,7 +366,7 @@ module _ (key bytes lens shared : List ℕ) (a : Admits key bytes lens) where
     -- finish compares the tags that whole opening compares
     genuine-fed : same (tagOfState SF) T ≡ genuine key ss (T ++ A)
     unfolding genuine SF y
-    genuine-fed = ap₂ same (tag-state key ss (a .keyed) 3 T 0 P ∙ ap (tagOf key ss) (sym opened-fed)) (sym front)
+    genuine-fed = ap₂ same (tag-state key ss (a .keyed) 3 T (begunBlock (aes (ctrKey key)) T (length P)) 0 P ∙ ap (tagOf key ss) (sym opened-fed)) (sym front)
 
     pub accepts-genuine : wholeAccepts key bytes lens T A ≡ genuine key (strings bytes lens) (T ++ A)
     unfolding wholeAccepts
@@ -342,23 +391,27 @@ module _ (key bytes lens shared : List ℕ) (a : Admits key bytes lens) where
     enough : ltb (length o) (length P) ≡ false
     enough = le-ltb (length o) (length P) (omega (arith, long, longer))
 
-    finish-step : Steps (opener T) (modelOf 3 A []) (stateOf key (strings bytes lens) 3 T 0 (streamed key T A)) (put shared 0 (streamed key T A)) finish
+    finish-step : Steps (opener T) (modelOf 3 A []) (feedingState key (strings bytes lens) T (streamed key T A)) (put shared 0 (streamed key T A)) finish
     unfolding finishStep modelStep SF ss bF P o
     finish-step = go (genuine key (strings bytes lens) (T ++ A)) genuine-fed accepts-genuine
       where
+        verdict : tagOfStateWork SF ≡ blocksOf (length A) - chained (length A)
+        verdict = tag-state-work key ss (a .keyed) 3 T (begunBlock (aes (ctrKey key)) T (length P)) 0 P ∙ ap (λ (n : ℕ). blocksOf n - chained n) long
+
         go : (t : Bool) → same (tagOfState SF) T ≡ t → wholeAccepts key bytes lens T A ≡ t
-            → Steps (opener T) (modelOf 3 A []) (stateOf key (strings bytes lens) 3 T 0 (streamed key T A)) (put shared 0 (streamed key T A)) finish
+            → Steps (opener T) (modelOf 3 A []) (feedingState key (strings bytes lens) T (streamed key T A)) (put shared 0 (streamed key T A)) finish
         go true g h =
             let last : o ≡ shown key bytes lens (opener T) shared (modelOf 0 A []) =
             ap (put shared 0) (sym (ap (λ (t : Bool). cond t (opened key (T ++ A)) (replicate (length A) 0)) h ∙ opened-fed)) in
-            steps (opener T) bF SF o finish (doneStep (length P) ended o) (doneAfter (opener T) bF finish 0) (simp (fittingF, enough, g)) (simp h)
-            (ap₂ (λ (n : ℕ) (x : List ℕ). record { outcome = record { number = 0; count = n }; output = x }) long last)
+            steps (opener T) bF SF o finish (doneStep (length P) (tagOfStateWork SF) ended o) (doneAfter (opener T) bF finish 0) (simp (fittingF, enough, g)) (simp h)
+            (ap₂ (λ (n : ℕ) (x : List ℕ). record { outcome = success n (tagOfStateWork SF); output = x }) long last
+            ∙ ap (λ (w : ℕ). record { outcome = success (length A) w; output = shown key bytes lens (opener T) shared (modelOf 0 A []) }) verdict)
             (finished T A o last)
         go false g h =
             let last : put o 0 (replicate (length P) 0) ≡ shown key bytes lens (opener T) shared (modelOf 0 A []) =
             wiped ∙ ap (put shared 0) (sym (ap (λ (t : Bool). cond t (opened key (T ++ A)) (replicate (length A) 0)) h)) in
-            steps (opener T) bF SF o finish (refusedStep 8 ended (put o 0 (replicate (length P) 0))) (doneAfter (opener T) bF finish 8) (simp (fittingF, enough, g)) (simp h)
-            (ap (λ (x : List ℕ). record { outcome = withoutLength 8; output = x }) last)
+            steps (opener T) bF SF o finish (forgedStep SF o) (doneAfter (opener T) bF finish 8) (simp (fittingF, enough, g)) (simp h)
+            (ap₂ (λ (w : ℕ) (x : List ℕ). record { outcome = forged w; output = x }) verdict last)
             (finished T A (put o 0 (replicate (length P) 0)) last)
 
   -- ---- any call

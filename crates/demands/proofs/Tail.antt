@@ -15,8 +15,8 @@ use Rattle.siv.specs.Calls.{limit}
 use Rattle.siv.proofs.Laws.{length-streamed}
 use Rattle.head.specs.declared.Head.{Head}
 use Rattle.stream.specs.declared.Stream.{Stream}
-use Rattle.stream.specs.State.{ended, allZero, writtenLimit, fits, added, tagOfState}
-use Rattle.stream.specs.Steps.{StepResult, doneStep, refusedStep, settle, streamedAt, addStep, turnStep, writeStep, closeStep, feedStep, finishStep}
+use Rattle.stream.specs.State.{ended, allZero, writtenLimit, keptFits, fits, added, addedWork, tagOfState, tagOfStateWork, streamedAt, keptAt}
+use Rattle.stream.specs.Steps.{StepResult, doneStep, refusedStep, settle, addStep, turnStep, writeStep, closeStep, feedStep, finishStep}
 use Rattle.demands.specs.First.{FirstStep, FirstFinish}
 use Rattle.demands.specs.Model.{ModelState, fresh, wants}
 use Rattle.demands.specs.Run.{Begin, sealer, opener, Start, undivided, divided, Call, add, turn, write, close, feed, finish, begunFrom, begun, call, sharedAfter, Entry, runBy, run}
@@ -28,41 +28,41 @@ use Rattle.demands.proofs.Third.{runs, sealer-known, opener-known}
 -- ---- what 9 judges
 
 module _ (wanted : ℕ) (s : Stream) where
-  -- what stands before the tail's length in it, and behind
+  -- what stands before the tail's length in it, and behind the kept block
   before : Bool
   before = eqb (s .stage) wanted && isWidth (s .width) && not (ltb limit (s .total)) && not (ltb (writtenLimit wanted (s .total)) (s .written))
 
   behind : Bool
   behind = allZero (drop (tailLength (s .total)) (s .tail))
 
-  by-field : (t : Bool) → eqb (s .«tail_len») (tailLength (s .total)) ≡ t → fits wanted s ≡ (before && t && behind)
+  by-field : (t : Bool) → eqb (s .«tail_len») (tailLength (s .total)) ≡ t → fits wanted s ≡ (before && t && keptFits wanted s && behind)
   unfolding fits before behind
-  by-field t e = ap (λ (u : Bool). before && u && behind) e
+  by-field t e = ap (λ (u : Bool). before && u && keptFits wanted s && behind) e
 
   fits-by-rule : (n : ℕ) → ByRule s → fits wanted s ≡ fitsWithout wanted (withTailLen n s)
-  unfolding fitsWithout before behind
-  fits-by-rule n e = by-field true (eq-eqb (s .«tail_len») (tailLength (s .total)) e) ∙ ap (λ (u : Bool). u && behind) (and-true before)
+  unfolding fitsWithout keptFits before behind
+  fits-by-rule n e = by-field true (eq-eqb (s .«tail_len») (tailLength (s .total)) e) ∙ ap (λ (u : Bool). u && keptFits wanted s && behind) (and-true before)
 
   fits-otherwise : (ByRule s → ⊥) → fits wanted s ≡ false
-  fits-otherwise e = by-field false (ne-eqb (s .«tail_len») (tailLength (s .total)) e) ∙ ap (λ (u : Bool). u && behind) (and-false before)
+  fits-otherwise e = by-field false (ne-eqb (s .«tail_len») (tailLength (s .total)) e) ∙ ap (λ (u : Bool). u && keptFits wanted s && behind) (and-false before)
 
 -- ---- a call
 
 -- two results by one number, on a state with either figure
-module _ (s : Stream) (n count : ℕ) (a b : Stream) (like : SameButTailLen a b) (last o : List ℕ) where
-  settled : (number : ℕ) → SameStep (settle number (doneStep count a last) s o) (settle number (doneStep count b last) (withTailLen n s) o)
+module _ (s : Stream) (n count work : ℕ) (a b : Stream) (like : SameButTailLen a b) (last o : List ℕ) where
+  settled : (number : ℕ) → SameStep (settle number (doneStep count work a last) s o) (settle number (doneStep count work b last) (withTailLen n s) o)
   settled number = go (eqb number 0)
     where
-      go : (t : Bool) → SameStep (cond t (doneStep count a last) (refusedStep number s o)) (cond t (doneStep count b last) (refusedStep number (withTailLen n s) o))
+      go : (t : Bool) → SameStep (cond t (doneStep count work a last) (refusedStep number s o)) (cond t (doneStep count work b last) (refusedStep number (withTailLen n s) o))
       go true = record { outcome = refl; state = like; output = refl }
       go false = record { outcome = refl; state = refl; output = refl }
 
   -- finish has 8 before that
   settled-or : (forged : StepResult) (number : ℕ)
-      → SameStep (cond (eqb number 8) forged (settle number (doneStep count a last) s o)) (cond (eqb number 8) forged (settle number (doneStep count b last) (withTailLen n s) o))
+      → SameStep (cond (eqb number 8) forged (settle number (doneStep count work a last) s o)) (cond (eqb number 8) forged (settle number (doneStep count work b last) (withTailLen n s) o))
   settled-or forged number = go (eqb number 8)
     where
-      go : (t : Bool) → SameStep (cond t forged (settle number (doneStep count a last) s o)) (cond t forged (settle number (doneStep count b last) (withTailLen n s) o))
+      go : (t : Bool) → SameStep (cond t forged (settle number (doneStep count work a last) s o)) (cond t forged (settle number (doneStep count work b last) (withTailLen n s) o))
       go true = record { outcome = refl; state = refl; output = refl }
       go false = settled number
 
@@ -72,13 +72,13 @@ by-nine : {x y : ℕ → StepResult} → ((number : ℕ) → SameStep (x number)
 by-nine {x} {y} alike f g rest e = subst (λ (t : Bool). SameStep (x (cond (not f) 9 rest)) (y (cond (not t) 9 rest))) e (alike (cond (not f) 9 rest))
 
 same-call : (s : Stream) (n : ℕ) (o : List ℕ) (c : Call) → ByRule s → SameStep (call s o c) (callWithout (withTailLen n s) o c)
-unfolding callWithout fitsWithout addStep turnStep writeStep closeStep feedStep finishStep added tagOfState streamedAt
-same-call s n o (add piece) e = by-nine (settled s n _ _ _ refl _ []) _ _ _ (fits-by-rule 1 s n e)
-same-call s n o (turn output) e = by-nine (settled s n _ _ _ refl _ output) _ _ _ (fits-by-rule 1 s n e)
-same-call s n o (write piece output) e = by-nine (settled s n _ _ _ refl _ output) _ _ _ (fits-by-rule 2 s n e)
-same-call s n o close e = by-nine (settled s n _ _ _ refl _ []) _ _ _ (ap (λ (t : Bool). t && not (ltb (s .written) (s .total))) (fits-by-rule 2 s n e))
-same-call s n o (feed piece) e = by-nine (settled s n _ _ _ refl _ o) _ _ _ (fits-by-rule 3 s n e)
-same-call s n o finish e = by-nine (settled-or s n _ _ _ refl _ o _) _ _ _ (fits-by-rule 3 s n e)
+unfolding callWithout fitsWithout addStep turnStep writeStep closeStep feedStep finishStep added addedWork tagOfState tagOfStateWork streamedAt keptAt
+same-call s n o (add piece) e = by-nine (settled s n _ _ _ _ refl _ []) _ _ _ (fits-by-rule 1 s n e)
+same-call s n o (turn output) e = by-nine (settled s n _ _ _ _ refl _ output) _ _ _ (fits-by-rule 1 s n e)
+same-call s n o (write piece output) e = by-nine (settled s n _ _ _ _ refl _ output) _ _ _ (fits-by-rule 2 s n e)
+same-call s n o close e = by-nine (settled s n _ _ _ _ refl _ []) _ _ _ (ap (λ (t : Bool). t && not (ltb (s .written) (s .total))) (fits-by-rule 2 s n e))
+same-call s n o (feed piece) e = by-nine (settled s n _ _ _ _ refl _ o) _ _ _ (fits-by-rule 3 s n e)
+same-call s n o finish e = by-nine (settled-or s n _ _ _ _ refl _ o _) _ _ _ (fits-by-rule 3 s n e)
 
 -- ---- the rule's figure is kept
 

@@ -15,20 +15,22 @@ use Rattle.aes.specs.Aes.{aes}
 use Rattle.cmac.specs.Cmac.{zeros}
 use Rattle.header.specs.Header.{strings}
 use Rattle.ctr.specs.Counter.{xorStream}
-use Rattle.siv.specs.Answer.{Outcome, withoutLength}
+use Rattle.siv.specs.Answer.{Outcome, success, withoutLength}
 use Rattle.siv.specs.Calls.{limit, scratchNeed, headerRows, openCall}
 use Rattle.siv.specs.Siv.{ctrKey, tagOf, streamed, sealed, opened, genuine}
+use Rattle.siv.specs.Work.{blocksOfAll, blockWork}
 use Rattle.siv.proofs.Laws.{first-pass, openJudged, length-streamed, length-opened}
 use Rattle.head.specs.Head.{headOf}
+use Rattle.head.proofs.Laws.{head-lengths}
 use Rattle.stream.specs.declared.Stream.{Stream}
 use Rattle.stream.specs.State.{ended}
 use Rattle.stream.specs.Steps.{StepResult, doneStep, tagRows, beginBy, beginSealer, beginOpener}
-use Rattle.demands.specs.Model.{ModelState, After, fresh, wants, wholeAccepts, outputBefore, modelNumber, modelStep, modelRun}
+use Rattle.demands.specs.Model.{ModelState, After, fresh, wants, wholeAccepts, outputBefore, workAfter, modelNumber, modelStep, modelRun}
 use Rattle.demands.specs.Run.{Begin, sealer, opener, Start, undivided, divided, Call, add, turn, write, close, feed, finish, begun, Entry, run}
-use Rattle.demands.specs.Third.{onePiece, gaveBy, gave, noFinish, AsModel, AsSealed, fed, AsOpened, ThirdDemand}
+use Rattle.demands.specs.Third.{beginWork, onePiece, gaveBy, gave, noFinish, AsModel, AsSealed, fed, AsOpened, ThirdDemand}
 use Rattle.demands.specs.Whole.{Admits}
-use Rattle.demands.proofs.Head.{admitted, divided-as-undivided}
-use Rattle.demands.proofs.Pieces.{stateOf, begin-state, streamed-append, streamed-rest}
+use Rattle.demands.proofs.Head.{admitted, begun-work, divided-as-undivided}
+use Rattle.demands.proofs.Pieces.{begun-zero, stateOf, addingState, writingState, feedingState, begin-state, streamed-append, streamed-rest}
 use Rattle.demands.proofs.Siv.{length-tag}
 use Rattle.demands.proofs.Steps.{modelOf, Known, adding, writing, closed, feeding, finished, Steps, step, known-shown, accepts-genuine, refusedAfter, doneAfter, model-wrong, unwanted}
 use Rattle.demands.proofs.Whole.{judged, open-gives, open-wipes, accepts-the-sealed}
@@ -44,26 +46,36 @@ put-nil l = refl
 module _ (key bytes lens : List ℕ) (a : Admits key bytes lens) where
   -- ---- begin
 
-  -- a begin from a head gives what the begin from the whole list gives
-  from : (start : Start) (begin : Begin) → begun key bytes lens start begin ≡ begun key bytes lens undivided begin
-  from undivided begin = refl
-  from (divided n) begin = divided-as-undivided .splits key bytes lens a n .begins begin
+  -- a begin from a head gives what the begin from the whole list gives, but for its work
+  from : (start : Start) (begin : Begin) (s : Stream) → begun key bytes lens undivided begin ≡ doneStep 0 (beginWork lens undivided) s []
+      → begun key bytes lens start begin ≡ doneStep 0 (beginWork lens start) s []
+  from undivided begin s e = e
+  from (divided n) begin s e =
+      let same = divided-as-undivided .splits key bytes lens a n .begins begin in
+      let number = same .number ∙ ap (λ (r : StepResult). r .outcome .number) e in
+      let count = same .count ∙ ap (λ (r : StepResult). r .outcome .count) e in
+      let work = begun-work key bytes lens (divided n) begin number in
+      let state = same .state ∙ ap (λ (r : StepResult). r .state) e in
+      let output = same .output ∙ ap (λ (r : StepResult). r .output) e in
+      λ i. record { outcome = record { number = number i; count = count i; work = work i }; state = state i; output = output i }
 
-  sealer-begins : (start : Start) → begun key bytes lens start sealer ≡ doneStep 0 (stateOf key (strings bytes lens) 1 zeros 0 []) []
+  sealer-begins : (start : Start) → begun key bytes lens start sealer ≡ doneStep 0 (beginWork lens start) (addingState key (strings bytes lens) []) []
   unfolding beginSealer
   sealer-begins start =
-      from start sealer
-      ∙ ap (λ (n : ℕ). beginBy n (headOf key (strings bytes lens)) 1 zeros) (admitted key bytes lens a)
-      ∙ ap (λ (s : Stream). doneStep 0 s []) (begin-state key (strings bytes lens) 1 zeros)
+      from start sealer (addingState key (strings bytes lens) [])
+      (ap₂ (λ (n w : ℕ). beginBy n w (headOf key (strings bytes lens)) 1 zeros) (admitted key bytes lens a) (head-lengths bytes lens (omega (arith, a .listed)))
+      ∙ ap (λ (s : Stream). doneStep 0 (2 + blocksOfAll lens) s []) (begin-state key (strings bytes lens) 1 zeros))
 
-  opener-begins : (start : Start) (T : List ℕ) → length T ≡ 16 → begun key bytes lens start (opener T) ≡ doneStep 0 (stateOf key (strings bytes lens) 3 T 0 []) []
+  opener-begins : (start : Start) (T : List ℕ) → length T ≡ 16 → begun key bytes lens start (opener T) ≡ doneStep 0 (beginWork lens start) (feedingState key (strings bytes lens) T []) []
   unfolding beginOpener
   opener-begins start T t =
-      from start (opener T)
-      ∙ ap (λ (n : ℕ). beginBy n (headOf key (strings bytes lens)) 3 T)
+      from start (opener T) (feedingState key (strings bytes lens) T [])
+      (ap₂ (λ (n w : ℕ). beginBy n w (headOf key (strings bytes lens)) 3 T)
       (first-pass (headerRows (length key) lens (length bytes)) (tagRows (length T)) refl (admitted key bytes lens a)
       ∙ ap (λ (b : Bool). cond (not b) 5 0) (eq-eqb (length T) 16 t))
-      ∙ ap (λ (s : Stream). doneStep 0 s []) (begin-state key (strings bytes lens) 3 T)
+      (head-lengths bytes lens (omega (arith, a .listed)))
+      ∙ ap (λ (s : Stream). doneStep 0 (2 + blocksOfAll lens) s [])
+      (begin-state key (strings bytes lens) 3 T ∙ ap (λ (k : List ℕ). stateOf key (strings bytes lens) 3 T k 0 []) (sym (begun-zero (aes (ctrKey key)) T))))
 
   module _ (shared : List ℕ) where
     pub sealer-known : (start : Start) → Known key bytes lens shared sealer (fresh sealer) (begun key bytes lens start sealer .state) shared
@@ -73,8 +85,8 @@ module _ (key bytes lens : List ℕ) (a : Admits key bytes lens) where
     pub opener-known : (start : Start) (T : List ℕ) → length T ≡ 16 → Known key bytes lens shared (opener T) (fresh (opener T)) (begun key bytes lens start (opener T) .state) shared
     opener-known start T t =
         subst (λ (r : StepResult). Known key bytes lens shared (opener T) (fresh (opener T)) (r .state) shared) (sym (opener-begins start T t))
-        (subst (Known key bytes lens shared (opener T) (fresh (opener T)) (stateOf key (strings bytes lens) 3 T 0 [])) (ap (put shared 0) (streamed-nil key T) ∙ put-nil shared)
-        (subst (λ (P : List ℕ). Known key bytes lens shared (opener T) (fresh (opener T)) (stateOf key (strings bytes lens) 3 T 0 P) (put shared 0 (streamed key T []))) (streamed-nil key T)
+        (subst (Known key bytes lens shared (opener T) (fresh (opener T)) (feedingState key (strings bytes lens) T [])) (ap (put shared 0) (streamed-nil key T) ∙ put-nil shared)
+        (subst (λ (P : List ℕ). Known key bytes lens shared (opener T) (fresh (opener T)) (feedingState key (strings bytes lens) T P) (put shared 0 (streamed key T []))) (streamed-nil key T)
         (feeding T [] t (omega arith) (omega arith))))
 
     -- ---- any list of calls
@@ -91,9 +103,8 @@ module _ (key bytes lens : List ℕ) (a : Admits key bytes lens) where
     -- the state that stands for what the model keeps
     abbrev stateBy : Begin → ModelState → Stream
     stateBy sealer b =
-        cond (eqb (b .stage) 1) (stateOf key (strings bytes lens) 1 zeros 0 (b .A))
-        (cond (eqb (b .stage) 2) (stateOf key (strings bytes lens) 2 (tagOf key (strings bytes lens) (b .A)) (length (b .W)) (b .A)) ended)
-    stateBy (opener T) b = cond (eqb (b .stage) 3) (stateOf key (strings bytes lens) 3 T 0 (streamed key T (b .A))) ended
+        cond (eqb (b .stage) 1) (addingState key (strings bytes lens) (b .A)) (cond (eqb (b .stage) 2) (writingState key (strings bytes lens) (b .A) (b .W)) ended)
+    stateBy (opener T) b = cond (eqb (b .stage) 3) (feedingState key (strings bytes lens) T (streamed key T (b .A))) ended
 
     known-state : (begin : Begin) (b : ModelState) (s : Stream) (o : List ℕ) → Known key bytes lens shared begin b s o → s ≡ stateBy begin b
     known-state begin b s o (adding A l) = refl
@@ -130,7 +141,7 @@ module _ (key bytes lens : List ℕ) (a : Admits key bytes lens) where
             ∙ ap (stateBy begin) (sym (one-model begin b s o k z))
             ∙ sym (known-state begin _ _ _ (runs begin (onePiece b) (fresh begin) s₀ shared k₀ .1))
 
-    as-model : (start : Start) (begin : Begin) (s : Stream) → begun key bytes lens start begin ≡ doneStep 0 s []
+    as-model : (start : Start) (begin : Begin) (s : Stream) → begun key bytes lens start begin ≡ doneStep 0 (beginWork lens start) s []
         → ((start : Start) → Known key bytes lens shared begin (fresh begin) (begun key bytes lens start begin .state) shared) → (calls : List Call)
         → AsModel key bytes lens begin shared calls start
     as-model start begin s e k calls =
@@ -349,18 +360,23 @@ module _ (key bytes lens : List ℕ) (a : Admits key bytes lens) where
         said : (t : Bool) → wholeAccepts key bytes lens T (b .A) ≡ t
             → modelStep key bytes lens (opener T) shared b finish .entry
             ≡ record {
-              outcome = record { number = cond (not t) 8 0; count = cond t (length (b .A)) 0 };
+              outcome = record { number = cond (not t) 8 0; count = cond t (length (b .A)) 0; work = workAfter key bytes lens (opener T) shared b finish };
               output = put shared 0 (cond t (opened key (T ++ b .A)) (replicate (length (b .A)) 0));
             }
         unfolding modelStep
         said true h = simp (eq-eqb (b .stage) 3 at, h)
         said false h = simp (eq-eqb (b .stage) 3 at, h)
 
-        agrees : modelStep key bytes lens (opener T) shared b finish .entry
-            ≡ record {
-              outcome = openCall key bytes lens (T ++ b .A) output scratch .outcome;
-              output = put shared 0 (take (length (b .A)) (openCall key bytes lens (T ++ b .A) output scratch .output));
+        -- finish has the number and the length of an outcome, and its own work
+        abbrev entry : Outcome → List ℕ → Entry
+        entry o s =
+            record {
+              outcome = record { number = o .number; count = o .count; work = workAfter key bytes lens (opener T) shared b finish };
+              output = put shared 0 s;
             }
+
+        agrees : modelStep key bytes lens (opener T) shared b finish .entry
+            ≡ entry (openCall key bytes lens (T ++ b .A) output scratch .outcome) (take (length (b .A)) (openCall key bytes lens (T ++ b .A) output scratch .output))
         unfolding y
         agrees = go (genuine key (strings bytes lens) y) refl
           where
@@ -370,16 +386,13 @@ module _ (key bytes lens : List ℕ) (a : Admits key bytes lens) where
             count : length (opened key y) ≡ n
             count = length-opened key y ∙ omega (arith, long)
 
-            entry : Outcome → List ℕ → Entry
-            entry o s = record { outcome = o; output = put shared 0 s }
-
             go : (t : Bool) → genuine key (strings bytes lens) y ≡ t
                 → modelStep key bytes lens (opener T) shared b finish .entry
-                ≡ record { outcome = openCall key bytes lens y output scratch .outcome; output = put shared 0 (take n (openCall key bytes lens y output scratch .output)) }
+                ≡ entry (openCall key bytes lens y output scratch .outcome) (take n (openCall key bytes lens y output scratch .output))
             go true g =
                 let gives = open-gives key bytes lens y output scratch passes g in
                 said true (accepts-genuine key bytes lens shared a T (b .A) tagged within roomy ∙ g)
-                ∙ ap₂ entry (sym (gives .0 ∙ ap (λ (k : ℕ). record { number = 0; count = k }) count)) (sym (ap (take n) (gives .1) ∙ read-front output (opened key y) n count large))
+                ∙ ap₂ entry (sym (gives .0 ∙ ap (λ (k : ℕ). success k (blockWork lens (length y - 16))) count)) (sym (ap (take n) (gives .1) ∙ read-front output (opened key y) n count large))
             go false g =
                 let wipes = open-wipes key bytes lens y output scratch passes g in
                 let zeroed : length y - 16 ≡ n = omega (arith, long) in
@@ -394,7 +407,7 @@ module _ (key bytes lens : List ℕ) (a : Admits key bytes lens) where
           let at = stays-run calls (fresh (opener T)) refl none in
           let lim = limits (opener T) _ _ _ (r .1) at in
           let whole = step key bytes lens shared a (opener T) _ _ _ finish (r .1) .entry ∙ agrees (modelRun key bytes lens (opener T) shared (fresh (opener T)) calls .model) at (lim .0) (lim .1) output scratch large scratchy in
-          record { outcome = ap (λ (e : Entry). e .outcome) whole; plaintext = ap (λ (e : Entry). e .output) whole }
+          record { number = ap (λ (e : Entry). e .outcome .number) whole; count = ap (λ (e : Entry). e .outcome .count) whole; plaintext = ap (λ (e : Entry). e .output) whole }
 
 pub accepts-the-sealed-and-follows-the-model : ThirdDemand
 accepts-the-sealed-and-follows-the-model key bytes lens a =

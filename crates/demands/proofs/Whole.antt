@@ -1,6 +1,6 @@
 -- The second demand and the third demand's part on whole calls hold.
 -- Assumes nothing.
-use mathlib.Core.Path.{_≡_, refl, ap, sym, subst, _∙_}
+use mathlib.Core.Path.{_≡_, refl, ap, ap₂, sym, subst, _∙_}
 use mathlib.Core.Bool.{Bool, true, false, not, cond}
 use mathlib.Core.List.{List}
 use Prim.Native.Nat.{ℕ, _+_, _-_, _≤_}
@@ -10,11 +10,13 @@ use borrow.Author.Tests.{le-ltb, eq-eqb}
 use Rattle.octets.specs.Octets.{put}
 use Rattle.octets.proofs.Strings.{take-put}
 use Rattle.header.specs.Header.{total, strings}
-use Rattle.siv.specs.Answer.{Outcome, success, withoutLength}
+use Rattle.siv.specs.Answer.{Outcome, success, forged}
 use Rattle.siv.specs.Calls.{limit, scratchNeed, sealNumber, sealCall, openNumber, openCall}
-use Rattle.siv.specs.Siv.{sealed, opened, genuine}
+use Rattle.siv.specs.Siv.{sealed, opened, genuine, genuineWork}
+use Rattle.siv.specs.Work.{blockWork}
 use Rattle.siv.proofs.Laws.{openJudged, open-admits, by-tag, open-passed, length-opened}
-use Rattle.demands.specs.Whole.{Admits, Gives, Second, SealsTo, ThirdWhole}
+use Rattle.siv.proofs.Lengths.{sealed-lengths, genuine-lengths}
+use Rattle.demands.specs.Whole.{Admits, Gives, Accepts, Second, SealsTo, ThirdWhole}
 use Rattle.demands.proofs.Siv.{length-sealed, opened-sealed, genuine-sealed, sealed-opened}
 
 -- ---- sealing
@@ -33,9 +35,10 @@ module _ (key bytes lens p output scratch : List ℕ) (a : Admits key bytes lens
         le-ltb (length scratch) (scratchNeed (length p)) scratchy,
       )
 
-  seal-gives : Gives (sealCall key bytes lens p output scratch) output (sealed key (strings bytes lens) p)
+  seal-gives : Gives (sealCall key bytes lens p output scratch) (blockWork lens (length p)) output (sealed key (strings bytes lens) p)
   unfolding sealCall
-  seal-gives = (simp seal-number (ap success (sym (length-sealed key (strings bytes lens) p))), simp seal-number)
+  seal-gives =
+      (simp seal-number (ap₂ success (sym (length-sealed key (strings bytes lens) p)) (sealed-lengths key bytes lens p (omega (arith, a .listed)))), simp seal-number)
 
 -- ---- opening
 
@@ -47,20 +50,23 @@ module _ (key bytes lens y output scratch : List ℕ) where
       go true p = refl
       go false p = absurd (omega arith)
 
+  work : openJudged key bytes lens y output scratch ≡ 0 → genuineWork key (strings bytes lens) y ≡ blockWork lens (length y - 16)
+  work j = genuine-lengths key bytes lens y (omega (arith, open-admits key bytes lens y output scratch j .listed))
+
   -- what opening gives where the tag agrees, and where it does not
   pub open-gives : openJudged key bytes lens y output scratch ≡ 0 → genuine key (strings bytes lens) y ≡ true
-      → Gives (openCall key bytes lens y output scratch) output (opened key y)
+      → Gives (openCall key bytes lens y output scratch) (blockWork lens (length y - 16)) output (opened key y)
   unfolding openCall
   open-gives j g =
       let number : openNumber key bytes lens y output scratch ≡ 0 = by-tag key bytes lens y output scratch j ∙ ap (λ (b : Bool). cond (not b) 8 0) g in
-      (simp number (ap success (sym (length-opened key y))), simp number)
+      (simp number (ap₂ success (sym (length-opened key y)) (work j)), simp number)
 
   pub open-wipes : openJudged key bytes lens y output scratch ≡ 0 → genuine key (strings bytes lens) y ≡ false
-      → (openCall key bytes lens y output scratch .outcome ≡ withoutLength 8) × (openCall key bytes lens y output scratch .output ≡ put output 0 (replicate (length y - 16) 0))
+      → (openCall key bytes lens y output scratch .outcome ≡ forged (blockWork lens (length y - 16))) × (openCall key bytes lens y output scratch .output ≡ put output 0 (replicate (length y - 16) 0))
   unfolding openCall
   open-wipes j g =
       let number : openNumber key bytes lens y output scratch ≡ 8 = by-tag key bytes lens y output scratch j ∙ ap (λ (b : Bool). cond (not b) 8 0) g in
-      (simp number, simp number)
+      (simp number (ap forged (work j)), simp number)
 
   module _ (a : Admits key bytes lens) (roomy : length y - 16 ≤ length output) (scratchy : scratchNeed (length y - 16) ≤ length scratch) where
     pub judged : 16 ≤ length y → length y ≤ limit + 16 → openJudged key bytes lens y output scratch ≡ 0
@@ -90,28 +96,29 @@ module _ (key bytes lens y output scratch : List ℕ) where
         ∙ ap (λ (n : ℕ). take (0 + n) (put output 0 Q)) l
         ∙ take-put output 0 Q (omega arith)
 
-    whole-accepts : (P : List ℕ) → Gives (openCall key bytes lens y output scratch) output P → SealsTo key bytes lens y P
+    whole-accepts : (P : List ℕ) → Accepts (openCall key bytes lens y output scratch) output P → SealsTo key bytes lens y P
     unfolding openCall
-    whole-accepts P (o, q) =
-        let zero : openNumber key bytes lens y output scratch ≡ 0 = ap (λ (r : Outcome). r .number) o in
-        let gives : Gives (openCall key bytes lens y output scratch) output (opened key y) = open-gives (open-passed key bytes lens y output scratch zero) (genuine-zero zero) in
-        let long : length P ≡ length (opened key y) = ap (λ (r : Outcome). r .count) (sym o ∙ gives .0) in
+    whole-accepts P (zero, count, q) =
+        let gives : Gives (openCall key bytes lens y output scratch) (blockWork lens (length y - 16)) output (opened key y) = open-gives (open-passed key bytes lens y output scratch zero) (genuine-zero zero) in
+        let long : length P ≡ length (opened key y) = sym count ∙ ap (λ (r : Outcome). r .count) (gives .0) in
         let same : P ≡ opened key y = written-same P (opened key y) long (omega (arith, length-opened key y)) (sym q ∙ gives .1) in
         subst (SealsTo key bytes lens y) (sym same) (zero-seals zero)
 
-    whole-accepted : (P : List ℕ) → SealsTo key bytes lens y P → Gives (openCall key bytes lens y output scratch) output P
+    whole-accepted : (P : List ℕ) → SealsTo key bytes lens y P → Gives (openCall key bytes lens y output scratch) (blockWork lens (length P)) output P
     whole-accepted P (l, e) =
         let long : length y ≡ length P + 16 = ap length (sym e) ∙ length-sealed key (strings bytes lens) P in
         let text : opened key y ≡ P = ap (opened key) (sym e) ∙ opened-sealed key (strings bytes lens) P in
         let true-tag : genuine key (strings bytes lens) y ≡ true = ap (genuine key (strings bytes lens)) (sym e) ∙ genuine-sealed key (strings bytes lens) P in
-        subst (Gives (openCall key bytes lens y output scratch) output) text (open-gives (judged (omega arith) (omega arith)) true-tag)
+        let count : length y - 16 ≡ length P = omega arith in
+        subst (λ (n : ℕ). Gives (openCall key bytes lens y output scratch) (blockWork lens n) output P) count
+        (subst (Gives (openCall key bytes lens y output scratch) (blockWork lens (length y - 16)) output) text (open-gives (judged (omega arith) (omega arith)) true-tag))
 
     whole-refuses : ((P : List ℕ) → SealsTo key bytes lens y P → ⊥) → openCall key bytes lens y output scratch .outcome .number ≡ 0 → ⊥
     unfolding openCall
     whole-refuses none e = none (opened key y) (zero-seals e)
 
     whole-wipes : ((P : List ℕ) → SealsTo key bytes lens y P → ⊥) → 16 ≤ length y → length y ≤ limit + 16
-        → (openCall key bytes lens y output scratch .outcome ≡ withoutLength 8) × (openCall key bytes lens y output scratch .output ≡ put output 0 (replicate (length y - 16) 0))
+        → (openCall key bytes lens y output scratch .outcome ≡ forged (blockWork lens (length y - 16))) × (openCall key bytes lens y output scratch .output ≡ put output 0 (replicate (length y - 16) 0))
     whole-wipes none tagged limited = open-wipes (judged tagged limited) (go (genuine key (strings bytes lens) y) refl)
       where
         go : (b : Bool) → genuine key (strings bytes lens) y ≡ b → genuine key (strings bytes lens) y ≡ false

@@ -1,25 +1,27 @@
--- The first demand: every call gives the complete result, or the one refusal that is first due, with state and buffers as document 01's table says.
+-- The first demand: every call gives the complete result, or the one refusal that is first due, with state and buffers as document 01's table says, and the work that slip 5 of document 02 says.
 -- Assumes nothing.
 use mathlib.Core.Path.{_≡_}
 use mathlib.Core.Bool.{Bool, true, false, not, cond, _&&_}
 use mathlib.Core.List.{List, [], _∷_, _++_}
-use Prim.Native.Nat.{ℕ, zero, suc, _+_, _-_, _/_, _%_}
+use Prim.Native.Nat.{ℕ, zero, suc, _+_, _-_, _*_, _/_, _%_}
 use lib.Dec.{ltb, eqb}
 use lib.ListN.{length, replicate}
 use Rattle.octets.specs.Octets.{put}
 use Rattle.aes.specs.Aes.{isWidth}
 use Rattle.cmac.specs.Cmac.{zeros}
 use Rattle.header.specs.Header.{total, strings}
+use Rattle.ctr.specs.Counter.{pieceWork}
 use Rattle.siv.specs.declared.Answer.{Answer}
-use Rattle.siv.specs.Answer.{success, withoutLength, Row, row, outcomeOf}
+use Rattle.siv.specs.Answer.{Outcome, success, withoutLength, forged, Row, row, outcomeOf}
 use Rattle.siv.specs.Calls.{CallResult, scratchNeed, headerRows, openRows, sealTable, sealCall, openTable, openCall}
 use Rattle.siv.specs.Ring.{slotCount, slotKey, ringRows, RingResult, openRing}
 use Rattle.siv.specs.Siv.{sealed, opened, genuine}
+use Rattle.siv.specs.Work.{blocksOfAll, blockWork}
 use Rattle.head.specs.declared.Head.{Head}
-use Rattle.head.specs.Head.{zeroHead, headOf, extended, MakeResult, makeHead, extendHead}
+use Rattle.head.specs.Head.{zeroHead, headOf, extended, MakeResult, madeHead, makeHead, extendHead}
 use Rattle.stream.specs.declared.Stream.{Stream}
-use Rattle.stream.specs.State.{ended, start, added, tagOfState}
-use Rattle.stream.specs.Steps.{StepResult, doneStep, refusedStep, tagRows, beginSealer, beginOpener, beginSealerFrom, beginOpenerFrom, addRows, addStep, turnRows, turned, turnStep, writeRows, wrote, streamedAt, writeStep, closeRows, closeStep, feedRows, feedStep, finishTable, finishStep}
+use Rattle.stream.specs.State.{ended, start, added, addedWork, tagOfState, tagOfStateWork, streamedAt}
+use Rattle.stream.specs.Steps.{StepResult, doneStep, refusedStep, tagRows, beginSealer, beginOpener, beginSealerFrom, beginOpenerFrom, addRows, addStep, turnRows, turned, turnStep, writeRows, wrote, writeStep, closeRows, closeStep, feedRows, deciphered, feedStep, finishTable, forgedStep, finishStep}
 use Rattle.kinphlor.specs.Interface.{aeadLens, packed, sealFromC, openFromC, packedRing, openRingFromC}
 
 -- document 01's order of refusals, with document 02's 11 straight after 1
@@ -39,9 +41,9 @@ pub data FirstDue : List Row → ℕ → Type 0 where
   here : {r : Row} {rs : List Row} → r .due ≡ true → FirstDue (r ∷ rs) (r .number)
   later : {r : Row} {rs : List Row} {n : ℕ} → r .due ≡ false → FirstDue rs n → FirstDue (r ∷ rs) n
 
--- a call gave a number and a length, and left these buffers
-abbrev pub Leaves : CallResult → ℕ → ℕ → List ℕ → List ℕ → Type 0
-Leaves result number count output scratch = (result .outcome ≡ record { number = number; count = count }) × (result .output ≡ output) × (result .scratch ≡ scratch)
+-- a call gave a number, a length and its work, and left these buffers
+abbrev pub Leaves : CallResult → Outcome → List ℕ → List ℕ → Type 0
+Leaves result outcome output scratch = (result .outcome ≡ outcome) × (result .output ≡ output) × (result .scratch ≡ scratch)
 
 module _ (key bytes lens input output scratch : List ℕ) where
   -- the scratch that n bytes need, zero
@@ -52,19 +54,22 @@ module _ (key bytes lens input output scratch : List ℕ) where
     pub ordered : keeps order (sealTable key bytes lens input output scratch) ≡ true
     pub first : FirstDue (sealTable key bytes lens input output scratch) (sealCall key bytes lens input output scratch .outcome .number)
     pub done : sealCall key bytes lens input output scratch .outcome .number ≡ 0
-        → Leaves (sealCall key bytes lens input output scratch) 0 (length input + 16) (put output 0 (sealed key (strings bytes lens) input)) (cleared (length input))
+        → Leaves (sealCall key bytes lens input output scratch) (success (length input + 16) (blockWork lens (length input)))
+        (put output 0 (sealed key (strings bytes lens) input)) (cleared (length input))
     pub refused : (n : ℕ) → sealCall key bytes lens input output scratch .outcome .number ≡ n → (n ≡ 0 → ⊥)
-        → Leaves (sealCall key bytes lens input output scratch) n 0 output scratch
+        → Leaves (sealCall key bytes lens input output scratch) (withoutLength n) output scratch
 
   pub record FirstOpen : Type 0 where
     pub ordered : keeps order (openTable key bytes lens input output scratch) ≡ true
     pub first : FirstDue (openTable key bytes lens input output scratch) (openCall key bytes lens input output scratch .outcome .number)
     pub done : openCall key bytes lens input output scratch .outcome .number ≡ 0
-        → Leaves (openCall key bytes lens input output scratch) 0 (length input - 16) (put output 0 (opened key input)) (cleared (length input - 16))
+        → Leaves (openCall key bytes lens input output scratch) (success (length input - 16) (blockWork lens (length input - 16)))
+        (put output 0 (opened key input)) (cleared (length input - 16))
     pub forged : openCall key bytes lens input output scratch .outcome .number ≡ 8
-        → Leaves (openCall key bytes lens input output scratch) 8 0 (put output 0 (replicate (length input - 16) 0)) (cleared (length input - 16))
+        → Leaves (openCall key bytes lens input output scratch) (forged (blockWork lens (length input - 16)))
+        (put output 0 (replicate (length input - 16) 0)) (cleared (length input - 16))
     pub refused : (n : ℕ) → openCall key bytes lens input output scratch .outcome .number ≡ n → (n ≡ 0 → ⊥) → (n ≡ 8 → ⊥)
-        → Leaves (openCall key bytes lens input output scratch) n 0 output scratch
+        → Leaves (openCall key bytes lens input output scratch) (withoutLength n) output scratch
 
 -- ---- the C interface
 
@@ -77,7 +82,7 @@ rowsFromC nonce (r ∷ rs) = r ∷ row 10 (eqb nonce 0) ∷ rs
 pub record FirstFromC (table : List Row) (nonce : ℕ) (output scratch : List ℕ) (call result : CallResult) : Type 0 where
   pub ordered : keeps order (rowsFromC nonce table) ≡ true
   pub first : FirstDue (rowsFromC nonce table) (result .outcome .number)
-  pub empty : result .outcome .number ≡ 10 → Leaves result 10 0 output scratch
+  pub empty : result .outcome .number ≡ 10 → Leaves result (withoutLength 10) output scratch
   pub otherwise : (result .outcome .number ≡ 10 → ⊥) → result ≡ call
 
 -- ---- a ring of keys
@@ -99,14 +104,19 @@ module _ (keyLength : ℕ) (ring bytes lens input output scratch : List ℕ) whe
   abbrev pub scratchCleared : List ℕ
   scratchCleared = put scratch 0 (replicate (scratchNeed (length input - 16)) 0)
 
-  -- an opening under the ring by its table: the buffers are as after an opening under one key, the slot's; a refusal gives slot 0
+  -- the work for so many keys: one key's, times their number
+  abbrev pub triedKeys : ℕ → ℕ
+  triedKeys n = n * blockWork lens (length input - 16)
+
+  -- an opening under the ring by its table: the buffers are as after an opening under one key, the slot's; a refusal gives slot 0; the keys up to that slot were tried, or all of them
   pub record FirstRing (table : List Row) (result : RingResult) : Type 0 where
     pub ordered : keeps order table ≡ true
     pub first : FirstDue table (result .call .outcome .number)
     pub done : result .call .outcome .number ≡ 0
-        → Leaves (result .call) 0 (length input - 16) (put output 0 (opened (slotKey keyLength ring (result .slot)) input)) scratchCleared
-    pub forged : result .call .outcome .number ≡ 8 → Leaves (result .call) 8 0 (put output 0 (replicate (length input - 16) 0)) scratchCleared
-    pub refused : (n : ℕ) → result .call .outcome .number ≡ n → (n ≡ 0 → ⊥) → (n ≡ 8 → ⊥) → Leaves (result .call) n 0 output scratch
+        → Leaves (result .call) (success (length input - 16) (triedKeys (result .slot + 1))) (put output 0 (opened (slotKey keyLength ring (result .slot)) input)) scratchCleared
+    pub forged : result .call .outcome .number ≡ 8
+        → Leaves (result .call) (forged (triedKeys (slotCount keyLength (length ring)))) (put output 0 (replicate (length input - 16) 0)) scratchCleared
+    pub refused : (n : ℕ) → result .call .outcome .number ≡ n → (n ≡ 0 → ⊥) → (n ≡ 8 → ⊥) → Leaves (result .call) (withoutLength n) output scratch
     pub slotless : (result .call .outcome .number ≡ 0 → ⊥) → result .slot ≡ 0
 
 -- ---- the number that C gets
@@ -125,10 +135,10 @@ restTable h lens restLength =
     row 9 (not (isWidth (h .width) && not (ltb 126 (h .count)))) ∷ row 2 (ltb 126 (h .count + length lens)) ∷ row 3 (not (eqb (total lens) restLength)) ∷ []
 
 -- a call that makes a head, by its table: a refusal has a head that is all zero
-pub record FirstHead (table : List Row) (result : MakeResult) (complete : Head) : Type 0 where
+pub record FirstHead (table : List Row) (result : MakeResult) (work : ℕ) (complete : Head) : Type 0 where
   pub ordered : keeps order table ≡ true
   pub first : FirstDue table (result .outcome .number)
-  pub done : result .outcome .number ≡ 0 → result ≡ record { outcome = success 0; head = complete }
+  pub done : result .outcome .number ≡ 0 → result ≡ madeHead work complete
   pub refused : (n : ℕ) → result .outcome .number ≡ n → (n ≡ 0 → ⊥) → result ≡ record { outcome = withoutLength n; head = zeroHead }
 
 -- ---- piecewise calls
@@ -140,15 +150,15 @@ pub record FirstStep (table : List Row) (result complete : StepResult) (s : Stre
   pub done : result .outcome .number ≡ 0 → result ≡ complete
   pub refused : (n : ℕ) → result .outcome .number ≡ n → (n ≡ 0 → ⊥) → result ≡ refusedStep n s output
 
--- finish: 8 ends the state and wipes the output's first total bytes
+-- finish: 8 ends the state and wipes the output's first total bytes, and took the work that success takes
 pub record FirstFinish (s : Stream) (output : List ℕ) : Type 0 where
   pub ordered : keeps order (finishTable s output) ≡ true
   pub first : FirstDue (finishTable s output) (finishStep s output .outcome .number)
-  pub done : finishStep s output .outcome .number ≡ 0 → finishStep s output ≡ doneStep (s .total) ended output
-  pub forged : finishStep s output .outcome .number ≡ 8 → finishStep s output ≡ refusedStep 8 ended (put output 0 (replicate (s .total) 0))
+  pub done : finishStep s output .outcome .number ≡ 0 → finishStep s output ≡ doneStep (s .total) (tagOfStateWork s) ended output
+  pub forged : finishStep s output .outcome .number ≡ 8 → finishStep s output ≡ forgedStep s output
   pub refused : (n : ℕ) → finishStep s output .outcome .number ≡ n → (n ≡ 0 → ⊥) → (n ≡ 8 → ⊥) → finishStep s output ≡ refusedStep n s output
 
--- The first demand, on all input bytes, lengths, heads and stream states; number and length tell an answer.
+-- The first demand, on all input bytes, lengths, heads and stream states; number, length and work tell an answer and its work.
 pub record First : Type 0 where
   pub sealing : (key bytes lens input output scratch : List ℕ) → FirstSeal key bytes lens input output scratch
   pub opening : (key bytes lens input output scratch : List ℕ) → FirstOpen key bytes lens input output scratch
@@ -174,27 +184,33 @@ pub record First : Type 0 where
   pub openingRingParts : (keyLength : ℕ) (ring header input output scratch : List ℕ) (ad nonce : ℕ)
       → let r = openRingFromC keyLength ring header ad nonce input output scratch in
       Parts (packedRing (r .slot) (r .call .outcome)) (r .call .outcome .number) (r .slot) (r .call .outcome .count)
-  pub makingHead : (key bytes lens : List ℕ) → FirstHead (headerRows (length key) lens (length bytes)) (makeHead key bytes lens) (headOf key (strings bytes lens))
-  pub extendingHead : (h : Head) (bytes lens : List ℕ) → FirstHead (restTable h lens (length bytes)) (extendHead h bytes lens) (extended h (strings bytes lens))
+  pub makingHead : (key bytes lens : List ℕ)
+      → FirstHead (headerRows (length key) lens (length bytes)) (makeHead key bytes lens) (2 + blocksOfAll lens) (headOf key (strings bytes lens))
+  pub extendingHead : (h : Head) (bytes lens : List ℕ)
+      → FirstHead (restTable h lens (length bytes)) (extendHead h bytes lens) (blocksOfAll lens) (extended h (strings bytes lens))
   pub beginningSealer : (key bytes lens : List ℕ)
-      → FirstStep (headerRows (length key) lens (length bytes)) (beginSealer key bytes lens) (doneStep 0 (start (headOf key (strings bytes lens)) 1 zeros) []) ended []
+      → FirstStep (headerRows (length key) lens (length bytes)) (beginSealer key bytes lens)
+      (doneStep 0 (2 + blocksOfAll lens) (start (headOf key (strings bytes lens)) 1 zeros) []) ended []
   pub beginningOpener : (key bytes lens tag : List ℕ)
       → FirstStep (headerRows (length key) lens (length bytes) ++ tagRows (length tag)) (beginOpener key bytes lens tag)
-      (doneStep 0 (start (headOf key (strings bytes lens)) 3 tag) []) ended []
+      (doneStep 0 (2 + blocksOfAll lens) (start (headOf key (strings bytes lens)) 3 tag) []) ended []
   pub beginningSealerFrom : (h : Head) (bytes lens : List ℕ)
-      → FirstStep (restTable h lens (length bytes)) (beginSealerFrom h bytes lens) (doneStep 0 (start (extended h (strings bytes lens)) 1 zeros) []) ended []
+      → FirstStep (restTable h lens (length bytes)) (beginSealerFrom h bytes lens)
+      (doneStep 0 (blocksOfAll lens) (start (extended h (strings bytes lens)) 1 zeros) []) ended []
   pub beginningOpenerFrom : (h : Head) (bytes lens tag : List ℕ)
       → FirstStep (restTable h lens (length bytes) ++ tagRows (length tag)) (beginOpenerFrom h bytes lens tag)
-      (doneStep 0 (start (extended h (strings bytes lens)) 3 tag) []) ended []
-  pub adding : (s : Stream) (piece : List ℕ) → FirstStep (addRows s (length piece)) (addStep s piece) (doneStep 0 (added s piece) []) s []
+      (doneStep 0 (blocksOfAll lens) (start (extended h (strings bytes lens)) 3 tag) []) ended []
+  pub adding : (s : Stream) (piece : List ℕ) → FirstStep (addRows s (length piece)) (addStep s piece) (doneStep 0 (addedWork s (length piece)) (added s piece) []) s []
   pub turning : (s : Stream) (output : List ℕ)
-      → FirstStep (turnRows s (length output)) (turnStep s output) (doneStep 16 (turned s (tagOfState s)) (put output 0 (tagOfState s))) s output
+      → FirstStep (turnRows s (length output)) (turnStep s output)
+      (doneStep 16 (tagOfStateWork s) (turned s (tagOfState s)) (put output 0 (tagOfState s))) s output
   pub writing : (s : Stream) (piece output : List ℕ)
       → FirstStep (writeRows s (length piece) (length output)) (writeStep s piece output)
-      (doneStep (length piece) (wrote s (length piece)) (put output 0 (streamedAt s (s .written) piece))) s output
-  pub closing : (s : Stream) → FirstStep (closeRows s) (closeStep s) (doneStep 0 ended []) s []
+      (doneStep (length piece) (pieceWork (s .written) (length piece)) (wrote s (length piece)) (put output 0 (streamedAt s (s .written) piece))) s output
+  pub closing : (s : Stream) → FirstStep (closeRows s) (closeStep s) (doneStep 0 0 ended []) s []
   pub feeding : (s : Stream) (piece output : List ℕ)
       → FirstStep (feedRows s (length piece) (length output)) (feedStep s piece output)
-      (doneStep (length piece) (added s (streamedAt s (s .total) piece)) (put output (s .total) (streamedAt s (s .total) piece))) s output
+      (doneStep (length piece) (pieceWork (s .total) (length piece) + addedWork s (length piece)) (added (deciphered s (length piece)) (streamedAt s (s .total) piece))
+      (put output (s .total) (streamedAt s (s .total) piece))) s output
   pub finishing : (s : Stream) (output : List ℕ) → FirstFinish s output
-  pub outcomeTells : (a b : Answer) → outcomeOf a ≡ outcomeOf b → a ≡ b
+  pub outcomeTells : (a b : Answer) (w w′ : ℕ) → outcomeOf a w ≡ outcomeOf b w′ → (a ≡ b) × (w ≡ w′)

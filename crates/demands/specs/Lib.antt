@@ -7,3 +7,4 @@ pub mod Head
 pub mod Model
 pub mod Third
 pub mod Tail
+pub mod Work

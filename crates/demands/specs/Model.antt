@@ -1,8 +1,8 @@
--- The reference model, "the plain book" of document 01: what every list of piecewise calls gives, told from the arguments of begin and of the calls alone.
+-- The reference model, "the plain book" of document 01: what every list of piecewise calls gives, told from the arguments of begin and of the calls alone; with the work of slip 5 of document 02, from lengths alone.
 -- Assumes nothing.
 use mathlib.Core.Bool.{Bool, false, not, cond, _||_}
 use mathlib.Core.List.{List, [], _∷_, _++_}
-use Prim.Native.Nat.{ℕ}
+use Prim.Native.Nat.{ℕ, _+_, _-_, _/_}
 use lib.Dec.{eqb, ltb}
 use lib.ListN.{length, drop, replicate}
 use Rattle.octets.specs.Octets.{put}
@@ -10,6 +10,7 @@ use Rattle.header.specs.Header.{strings}
 use Rattle.siv.specs.Answer.{Row, row, first, withoutLength}
 use Rattle.siv.specs.Calls.{limit, scratchNeed, openNumber}
 use Rattle.siv.specs.Siv.{tagOf, streamed, opened}
+use Rattle.siv.specs.Work.{sixteenths, blocksOf}
 use Rattle.demands.specs.Run.{Begin, sealer, opener, Call, add, turn, write, close, feed, finish, Entry}
 
 -- what the model keeps: a stage, A, the bytes added or fed, and W, those written
@@ -31,6 +32,10 @@ wants (write piece output) = 2
 wants close = 2
 wants (feed piece) = 3
 wants finish = 3
+
+-- how many blocks of n bytes the CMAC's chain has taken while their end is not known: the hold of document 01 stands behind them
+abbrev pub chained : ℕ → ℕ
+chained n = n / 16 - 1
 
 -- what the model keeps after a call, and what the call gave
 pub record After : Type 0 where
@@ -97,6 +102,16 @@ module _ (key bytes lens : List ℕ) where
     countAfter b (feed piece) = length piece
     countAfter b finish = length (b .A)
 
+    -- the work of success, and of 8: the blocks that join the chain, those that the tag is made with, and those of the key stream that are begun
+    abbrev pub workAfter : ModelState → Call → ℕ
+    workAfter b (add piece) = chained (length (b .A ++ piece)) - chained (length (b .A))
+    workAfter b (turn output) = blocksOf (length (b .A)) - chained (length (b .A))
+    workAfter b (write piece output) = sixteenths (length (b .W ++ piece)) - sixteenths (length (b .W))
+    workAfter b close = 0
+    workAfter b (feed piece) =
+        (sixteenths (length (b .A ++ piece)) - sixteenths (length (b .A))) + (chained (length (b .A ++ piece)) - chained (length (b .A)))
+    workAfter b finish = blocksOf (length (b .A)) - chained (length (b .A))
+
     -- the output lent to a call, before it; add and close are lent none
     abbrev pub outputBefore : ModelState → Call → List ℕ
     outputBefore b (add piece) = []
@@ -119,14 +134,14 @@ module _ (key bytes lens : List ℕ) where
     abbrev pub modelNumber : ModelState → Call → ℕ
     modelNumber b c = first (row 9 (not (eqb (b .stage) (wants c))) ∷ refusals b c)
 
-    -- a call: a refusal has length 0 and, but for 8, changes neither what the model keeps nor outputs
+    -- a call: a refusal has length 0 and, but for 8, no work, and changes neither what the model keeps nor outputs
     unfoldable pub modelStep : ModelState → Call → After
     modelStep b c =
         let n = modelNumber b c in
         cond (eqb n 0 || eqb n 8)
         (record {
           model = modelAfter b c;
-          entry = record { outcome = record { number = n; count = cond (eqb n 0) (countAfter b c) 0 }; output = outputAfter b c };
+          entry = record { outcome = record { number = n; count = cond (eqb n 0) (countAfter b c) 0; work = workAfter b c }; output = outputAfter b c };
         })
         (record { model = b; entry = record { outcome = withoutLength n; output = outputBefore b c } })
 

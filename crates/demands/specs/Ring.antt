@@ -7,11 +7,12 @@ use Prim.Native.Nat.{ℕ, _+_, _-_, _*_, _≤_, _<_}
 use lib.ListN.{length, replicate}
 use Rattle.octets.specs.Octets.{put}
 use Rattle.header.specs.Header.{total}
-use Rattle.siv.specs.Answer.{withoutLength}
+use Rattle.siv.specs.Answer.{forged}
 use Rattle.siv.specs.Calls.{isKeyLength, limit, scratchNeed, openCall}
-use Rattle.siv.specs.Ring.{slotKey, RingResult, openSlot, openRing}
+use Rattle.siv.specs.Ring.{slotKey, triedWork, RingResult, openSlot, opensAt, workAt, openSlotWith, openRing}
+use Rattle.siv.specs.Work.{blockWork}
 use Rattle.kinphlor.specs.Interface.{aeadLens, openFromC, openRingFromC}
-use Rattle.demands.specs.Whole.{Gives, SealsTo}
+use Rattle.demands.specs.Whole.{Gives, Accepts, SealsTo}
 
 -- a ring of one to four whole keys
 pub record IsRing (keyLength slots : ℕ) (ring : List ℕ) : Type 0 where
@@ -27,9 +28,11 @@ module _ (keyLength slots : ℕ) (ring bytes lens input output scratch : List �
   Opens i = (i < slots) × (openSlot keyLength ring bytes lens input output scratch i .outcome .number ≡ 0)
 
   pub record BySlot (result : RingResult) : Type 0 where
-    -- number, length, output and scratch are those of the single call with the given slot's key
+    -- number, length, output and scratch are those of the single call with the given slot's key, and the work is that of the single calls with every key tried
     pub within : result .slot < slots
-    pub single : result .call ≡ openSlot keyLength ring bytes lens input output scratch (result .slot)
+    pub single : result .call
+        ≡ openSlotWith keyLength ring bytes lens input output scratch (result .slot)
+        (triedWork (opensAt keyLength ring bytes lens input output scratch) (workAt keyLength ring bytes lens input output scratch) 0 slots)
     -- if some slot's key opens, the slot given is the smallest such
     pub smallest : (i : ℕ) → Opens i → Opens (result .slot) × (result .slot ≤ i)
     -- if none does, it is slot 0
@@ -43,15 +46,16 @@ module _ (keyLength slots : ℕ) (ring bytes lens y : List ℕ) where
 
   pub record ThirdRing (output : List ℕ) (result : RingResult) : Type 0 where
     -- opening accepts y with P, and gives slot i, exactly when P seals to y under slot i's key and nothing does under an earlier one
-    pub accepts : (P : List ℕ) → Gives (result .call) output P → SealsUnder (result .slot) P × ((j : ℕ) (Q : List ℕ) → SealsUnder j Q → result .slot ≤ j)
-    pub accepted : (i : ℕ) (P : List ℕ) → SealsUnder i P → ((j : ℕ) (Q : List ℕ) → SealsUnder j Q → i ≤ j) → Gives (result .call) output P × (result .slot ≡ i)
+    pub accepts : (P : List ℕ) → Accepts (result .call) output P → SealsUnder (result .slot) P × ((j : ℕ) (Q : List ℕ) → SealsUnder j Q → result .slot ≤ j)
+    pub accepted : (i : ℕ) (P : List ℕ) → SealsUnder i P → ((j : ℕ) (Q : List ℕ) → SealsUnder j Q → i ≤ j) 
+        → Gives (result .call) ((i + 1) * blockWork lens (length P)) output P × (result .slot ≡ i)
     -- it accepts y where anything seals to y under some key of the ring
     pub opens : (i : ℕ) (P : List ℕ) → SealsUnder i P → result .call .outcome .number ≡ 0
     -- where nothing seals to y under any key, opening refuses
     pub refuses : ((i : ℕ) (P : List ℕ) → SealsUnder i P → ⊥) → result .call .outcome .number ≡ 0 → ⊥
     -- and if y has 16 to 1,048,592 bytes, it refuses with 8, and every output byte that a plaintext would have taken is zero
     pub wipes : ((i : ℕ) (P : List ℕ) → SealsUnder i P → ⊥) → 16 ≤ length y → length y ≤ limit + 16
-        → (result .call .outcome ≡ withoutLength 8) × (result .call .output ≡ put output 0 (replicate (length y - 16) 0))
+        → (result .call .outcome ≡ forged (slots * blockWork lens (length y - 16))) × (result .call .output ≡ put output 0 (replicate (length y - 16) 0))
 
 -- What a user of the ring may rely on.
 pub record Ring : Type 0 where

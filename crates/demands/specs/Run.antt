@@ -80,7 +80,7 @@ sharedAfter shared close last = shared
 sharedAfter shared (feed piece) last = last
 sharedAfter shared finish last = last
 
--- what a call gave: number and length, and the last contents of the output lent to it
+-- what a call gave: number, length and work, and the last contents of the output lent to it
 pub record Entry : Type 0 where
   pub outcome : Outcome
   pub output : List ℕ

@@ -5,16 +5,17 @@ use mathlib.Core.Bool.{Bool, not, cond, _&&_}
 use mathlib.Core.List.{List, [], _∷_}
 use Prim.Native.Nat.{ℕ, _+_}
 use lib.Dec.{eqb, ltb}
-use lib.ListN.{length, drop, replicate}
+use lib.ListN.{length, drop}
 use Rattle.octets.specs.Octets.{put, same}
 use Rattle.aes.specs.Aes.{isWidth}
 use Rattle.s2v.specs.S2v.{tailLength}
+use Rattle.ctr.specs.Counter.{pieceWork}
 use Rattle.siv.specs.Answer.{row, first}
 use Rattle.siv.specs.Calls.{limit}
 use Rattle.head.specs.declared.Head.{Head}
 use Rattle.stream.specs.declared.Stream.{Stream}
-use Rattle.stream.specs.State.{ended, allZero, writtenLimit, stateWith, added, tagOfState}
-use Rattle.stream.specs.Steps.{StepResult, doneStep, refusedStep, settle, turned, wrote, streamedAt}
+use Rattle.stream.specs.State.{ended, allZero, writtenLimit, keptFits, stateWith, added, addedWork, tagOfState, tagOfStateWork, streamedAt}
+use Rattle.stream.specs.Steps.{StepResult, doneStep, refusedStep, settle, turned, wrote, deciphered, forgedStep}
 use Rattle.demands.specs.Model.{ModelState}
 use Rattle.demands.specs.Run.{Begin, sealer, opener, Start, Call, add, turn, write, close, feed, finish, begunFrom, begun, call, lent, Run, runBy, run}
 use Rattle.demands.specs.Third.{expected, ran}
@@ -41,38 +42,40 @@ fitsWithout wanted s =
     && isWidth (s .width)
     && not (ltb limit (s .total))
     && not (ltb (writtenLimit wanted (s .total)) (s .written))
+    && keptFits wanted s
     && allZero (drop (tailLength (s .total)) (s .tail))
 
 -- each call with its refusals: none judges the field, nor works with it
 unfoldable pub callWithout : Stream → List ℕ → Call → StepResult
 callWithout s shared (add piece) =
-    settle (first (row 9 (not (fitsWithout 1 s)) ∷ row 4 (ltb limit (s .total + length piece)) ∷ [])) (doneStep 0 (added s piece) []) s []
+    settle (first (row 9 (not (fitsWithout 1 s)) ∷ row 4 (ltb limit (s .total + length piece)) ∷ [])) (doneStep 0 (addedWork s (length piece)) (added s piece) []) s []
 callWithout s shared (turn output) =
     settle (first (row 9 (not (fitsWithout 1 s)) ∷ row 6 (ltb (length output) 16) ∷ []))
-    (doneStep 16 (turned s (tagOfState s)) (put output 0 (tagOfState s))) s output
+    (doneStep 16 (tagOfStateWork s) (turned s (tagOfState s)) (put output 0 (tagOfState s))) s output
 callWithout s shared (write piece output) =
     settle
     (first (row 9 (not (fitsWithout 2 s)) ∷ row 4 (ltb (s .total) (s .written + length piece)) ∷ row 6 (ltb (length output) (length piece)) ∷ []))
-    (doneStep (length piece) (wrote s (length piece)) (put output 0 (streamedAt s (s .written) piece))) s output
-callWithout s shared close = settle (first (row 9 (not (fitsWithout 2 s && not (ltb (s .written) (s .total)))) ∷ [])) (doneStep 0 ended []) s []
+    (doneStep (length piece) (pieceWork (s .written) (length piece)) (wrote s (length piece)) (put output 0 (streamedAt s (s .written) piece))) s output
+callWithout s shared close = settle (first (row 9 (not (fitsWithout 2 s && not (ltb (s .written) (s .total)))) ∷ [])) (doneStep 0 0 ended []) s []
 callWithout s shared (feed piece) =
+    let n = length piece in
     let p = streamedAt s (s .total) piece in
     settle
     (first (row 9 (not (fitsWithout 3 s)) ∷ row 4 (ltb limit (s .total + length piece)) ∷ row 6 (ltb (length shared) (s .total + length piece)) ∷ []))
-    (doneStep (length piece) (added s p) (put shared (s .total) p)) s shared
+    (doneStep n (pieceWork (s .total) n + addedWork s n) (added (deciphered s n) p) (put shared (s .total) p)) s shared
 callWithout s shared finish =
     let number = first (row 9 (not (fitsWithout 3 s)) ∷ row 6 (ltb (length shared) (s .total)) ∷ row 8 (not (same (tagOfState s) (s .v))) ∷ []) in
-    cond (eqb number 8) (refusedStep 8 ended (put shared 0 (replicate (s .total) 0))) (settle number (doneStep (s .total) ended shared) s shared)
+    cond (eqb number 8) (forgedStep s shared) (settle number (doneStep (s .total) (tagOfStateWork s) ended shared) s shared)
 
 -- ---- what may be relied on
 
--- number, length and output are the same, and the state but for the field
+-- number, length, work and output are the same, and the state but for the field
 pub record SameStep (a b : StepResult) : Type 0 where
   pub outcome : a .outcome ≡ b .outcome
   pub state : SameButTailLen (a .state) (b .state)
   pub output : a .output ≡ b .output
 
--- a list of calls: all numbers, lengths and outputs are the same, and the state but for the field
+-- a list of calls: all numbers, lengths, works and outputs are the same, and the state but for the field
 pub record SameRun (a b : Run) : Type 0 where
   pub entries : a .entries ≡ b .entries
   pub state : SameButTailLen (a .state) (b .state)

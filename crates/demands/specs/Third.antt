@@ -5,16 +5,17 @@ use mathlib.Core.Bool.{Bool, true, false, cond}
 use mathlib.Core.List.{List, [], _∷_, _++_}
 use Prim.Native.Nat.{ℕ, _+_, _-_, _≤_}
 use lib.Dec.{eqb}
-use lib.ListN.{length, take, replicate}
+use lib.ListN.{length, take, drop, replicate}
 use Rattle.octets.specs.Octets.{put}
 use Rattle.header.specs.Header.{strings}
 use Rattle.siv.specs.Answer.{success}
 use Rattle.siv.specs.Calls.{scratchNeed, openCall}
 use Rattle.siv.specs.Siv.{streamed, sealed}
+use Rattle.siv.specs.Work.{blocksOfAll}
 use Rattle.stream.specs.State.{ended}
 use Rattle.stream.specs.Steps.{StepResult, finishStep}
 use Rattle.demands.specs.Model.{ModelState, fresh, ModelRun, sealTag, shown, modelRun}
-use Rattle.demands.specs.Run.{Begin, sealer, opener, Start, undivided, Call, add, turn, write, close, feed, finish, begun, Entry, Run, run}
+use Rattle.demands.specs.Run.{Begin, sealer, opener, Start, undivided, divided, Call, add, turn, write, close, feed, finish, begun, Entry, Run, run}
 use Rattle.demands.specs.Whole.{Admits, ThirdWhole}
 
 -- the same bytes in one piece: one add of A in stage 1; one add of A, turn and one write of W in stage 2; one feed of A in stage 3
@@ -47,6 +48,11 @@ noFinish (close ∷ cs) = noFinish cs
 noFinish (feed piece ∷ cs) = noFinish cs
 noFinish (finish ∷ cs) = false
 
+-- the work of begin: 2 and the blocks of all header strings; from a head, those of the strings behind its own
+abbrev pub beginWork : List ℕ → Start → ℕ
+beginWork lens undivided = 2 + blocksOfAll lens
+beginWork lens (divided n) = blocksOfAll (drop n lens)
+
 module _ (key bytes lens : List ℕ) where
   -- any list of calls, refused ones included, after either begin, from the whole list or from a head, with any shared output
   module _ (begin : Begin) (shared : List ℕ) (calls : List Call) where
@@ -60,9 +66,9 @@ module _ (key bytes lens : List ℕ) where
       ran = run (begun key bytes lens start begin .state) shared calls
 
       pub record AsModel : Type 0 where
-        -- begin succeeds
-        pub begins : begun key bytes lens start begin .outcome ≡ success 0
-        -- all numbers, lengths and output bytes are the model's
+        -- begin succeeds, with the work of all strings, or of those behind the head's
+        pub begins : begun key bytes lens start begin .outcome ≡ success 0 (beginWork lens start)
+        -- all numbers, lengths, works and output bytes are the model's
         pub entries : ran .entries ≡ expected .entries
         pub output : ran .shared ≡ shown key bytes lens begin shared (expected .model)
         -- the state is that of the same bytes given in one piece, after the begin from the whole list; in stage 0 it is all zero
@@ -98,7 +104,8 @@ module _ (key bytes lens : List ℕ) where
 
     pub record AsOpened : Type 0 where
       -- finish gives the number and the length of whole opening
-      pub outcome : finished .outcome ≡ openCall key bytes lens (T ++ fed T shared calls) output scratch .outcome
+      pub number : finished .outcome .number ≡ openCall key bytes lens (T ++ fed T shared calls) output scratch .outcome .number
+      pub count : finished .outcome .count ≡ openCall key bytes lens (T ++ fed T shared calls) output scratch .outcome .count
       -- and its plaintext or zeros, and nothing else
       pub plaintext : finished .output ≡ put shared 0 (take (length (fed T shared calls)) (openCall key bytes lens (T ++ fed T shared calls) output scratch .output))
 

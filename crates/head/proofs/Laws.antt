@@ -4,6 +4,7 @@ use mathlib.Core.Path.{_≡_, refl, ap, ap₂, sym, subst, _∙_}
 use mathlib.Core.Bool.{true, not, and-eq-true-iff}
 use mathlib.Core.List.{List, [], _∷_, _++_}
 use Prim.Native.Nat.{ℕ, _+_, _/_, _≤_}
+use native.Mathlib.Nat.{zero-add}
 use native.Mathlib.Omega.{arith}
 use lib.Dec.{eqb, ltb}
 use lib.ListN.{length, length-append}
@@ -21,10 +22,12 @@ use Rattle.s2v.proofs.Laws.{absorb-append}
 use Rattle.siv.specs.declared.Answer.{Answer}
 use Rattle.siv.specs.Answer.{Outcome, first, outcomeOf, withoutLength}
 use Rattle.siv.specs.Siv.{macKey, ctrKey}
+use Rattle.siv.specs.Work.{blocksOfAll}
 use Rattle.siv.proofs.Laws.{not-due}
+use Rattle.siv.proofs.Lengths.{absorb-lengths, header-lengths}
 use Rattle.head.specs.declared.Head.{Head}
 use Rattle.head.specs.declared.Made.{Made}
-use Rattle.head.specs.Head.{zeroHead, headOf, extended, extendedWork, fitsHead, restRows, MakeResult, DidMake, madeHead, settleHead}
+use Rattle.head.specs.Head.{zeroHead, headOf, headOfWork, extended, extendedWork, fitsHead, restRows, MakeResult, DidMake, madeHead, settleHead}
 
 -- ---- the heads that the code puts together
 
@@ -70,6 +73,16 @@ pub stays-work : (bytes lens : List ℕ) → length lens ≡ 0 → 0 ≡ extende
 unfolding extendedWork strings absorbWork
 stays-work bytes [] e = refl
 stays-work bytes (n ∷ lens) e = absurd (omega arith)
+
+-- ---- the work by lengths
+
+pub head-lengths : (bytes lens : List ℕ) → total lens ≤ length bytes → headOfWork (strings bytes lens) ≡ 2 + blocksOfAll lens
+unfolding headOfWork
+head-lengths bytes lens h = omega (arith, header-lengths bytes lens h)
+
+pub extended-lengths : (bytes lens : List ℕ) → total lens ≤ length bytes → extendedWork (strings bytes lens) ≡ blocksOfAll lens
+unfolding extendedWork
+extended-lengths bytes lens h = absorb-lengths 0 bytes lens h ∙ zero-add (blocksOfAll lens)
 
 -- ---- a head with the next strings is the head of all of them
 

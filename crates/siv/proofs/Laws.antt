@@ -400,6 +400,23 @@ module _ (key bytes lens input output scratch : List ℕ) where
   unfolding number rows openNumber
   open-passed e = first-none rows (row 8 (not (genuine key (strings bytes lens) input)) ∷ []) refl e .0
 
+  -- and so did a number of 8
+  pub open-forged : openNumber key bytes lens input output scratch ≡ 8 → openJudged ≡ 0
+  unfolding number
+  open-forged e = go (ℕ-discrete openJudged 0)
+    where
+      go : Dec (openJudged ≡ 0) → openJudged ≡ 0
+      go (yes z) = z
+      go (no z) = absurd (not-eight (sym (number-due z) ∙ e))
+
+  -- any other did not
+  pub open-unread : (openNumber key bytes lens input output scratch ≡ 0 → ⊥) → (openNumber key bytes lens input output scratch ≡ 8 → ⊥) → openJudged ≡ 0 → ⊥
+  open-unread z e judged = go (genuine key (strings bytes lens) input) (by-tag judged)
+    where
+      go : (g : Bool) → openNumber key bytes lens input output scratch ≡ cond (not g) 8 0 → ⊥
+      go true n = z n
+      go false n = e n
+
   -- no length is above the longest plaintext's
   pub open-count : openCall key bytes lens input output scratch .outcome .count ≤ limit
   unfolding openCall

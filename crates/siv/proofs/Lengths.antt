@@ -3,6 +3,7 @@
 use mathlib.Core.Path.{_≡_, ap, _∙_}
 use mathlib.Core.List.{List, [], _∷_, _++_}
 use Prim.Native.Nat.{ℕ, _+_, _-_, _*_, _≤_, _<_}
+use native.Mathlib.Nat.{add-zero}
 use native.Mathlib.Numerals.{add-one}
 use native.Mathlib.Omega.{arith}
 use lib.ListN.{length, getD, take, drop, length-drop}
@@ -26,14 +27,19 @@ unfolding blocksOfAll total
 blocks-most [] = omega arith
 blocks-most (n ∷ lens) = omega (arith, blocks-most lens)
 
+pub blocks-append : (a b : List ℕ) → blocksOfAll (a ++ b) ≡ blocksOfAll a + blocksOfAll b
+unfolding blocksOfAll
+blocks-append [] b = omega arith
+blocks-append (n ∷ a) b = omega (arith, blocks-append a b)
+
 -- one string more, and all of them
 pub blocks-next : (lens : List ℕ) (i : ℕ) → i < length lens → blocksOfAll (take (i + 1) lens) ≡ blocksOfAll (take i lens) + blocksOf (getD lens i 0)
 unfolding blocksOfAll
-blocks-next lens i h = ap (λ (n : ℕ). blocksOfAll (take n lens)) (add-one i) ∙ ap blocksOfAll (take-suc lens i 0 h) ∙ go (take i lens)
-  where
-    go : (l : List ℕ) → blocksOfAll (l ++ (getD lens i 0 ∷ [])) ≡ blocksOfAll l + blocksOf (getD lens i 0)
-    go [] = omega arith
-    go (n ∷ l) = omega (arith, go l)
+blocks-next lens i h =
+    ap (λ (n : ℕ). blocksOfAll (take n lens)) (add-one i)
+    ∙ ap blocksOfAll (take-suc lens i 0 h)
+    ∙ blocks-append (take i lens) (getD lens i 0 ∷ [])
+    ∙ ap (λ (n : ℕ). blocksOfAll (take i lens) + n) (add-zero (blocksOf (getD lens i 0)))
 
 pub blocks-all : (lens : List ℕ) (i : ℕ) → length lens ≤ i → blocksOfAll (take i lens) ≡ blocksOfAll lens
 blocks-all lens i h = ap blocksOfAll (take-all i lens h)

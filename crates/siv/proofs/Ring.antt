@@ -5,7 +5,8 @@ use mathlib.Core.Bool.{Bool, true, false, false≢true, cond, _||_, or-true}
 use mathlib.Core.List.{List, _++_}
 use Prim.Native.Nat.{ℕ, zero, suc, _+_, _-_, _*_, _≤_, _<_}
 use native.Mathlib.Decide.{ℕ-discrete, decLt}
-use native.Mathlib.Nat.{zero-add, add-zero, add-assoc, add-mul, sub-zero, div-eq-of-eq-mul-left, mul-le-mul-right}
+use native.Mathlib.Nat.{zero-add, suc-add, add-zero, add-suc, add-assoc, zero-mul, add-mul, sub-zero, div-eq-of-eq-mul-left, mul-le-mul-right}
+use native.Mathlib.Numerals.{add-one}
 use native.Mathlib.Omega.{arith}
 use lib.Dec.{eqb, ltb}
 use lib.ListN.{length, take, drop, replicate, length-take, length-drop}
@@ -18,6 +19,8 @@ use Rattle.siv.specs.Answer.{Outcome, Row, first, outcomeOf, success, wi
 use Rattle.siv.specs.Calls.{isKeyLength, limit, scratchNeed, headerRows, openRows, DidCall}
 use Rattle.siv.specs.Ring.{isRing, slotCount, slotKey, firstSlot, triedWork, ringRows, RingResult, refusedRing, DidRing, openSlot, opensAt, workAt, openSlotWith, openRing}
 use Rattle.siv.specs.Siv.{opened, genuine, genuineWork}
+use Rattle.siv.specs.Work.{blockWork}
+use Rattle.siv.proofs.Lengths.{genuine-lengths}
 use Rattle.siv.proofs.Laws.{first-none, first-pass, first-stop, outcome-with, openJudged, open-admits, open-due, open-due-work, open-count, open-number, open-work, open-refused, open-delivered, length-opened, text-read, scratch-wiped}
 
 -- ---- lengths
@@ -135,6 +138,37 @@ tried-none test work i (suc n) w = ap (λ (k : ℕ). k + cond (test i) 0 (triedW
     go : (t : Bool) → triedWork test work (suc i) n ≡ 0 → 0 + cond t 0 (triedWork test work (suc i) n) ≡ 0
     go true e = refl
     go false e = omega (arith, e)
+
+-- where each slot has the same work, it is that times the slots tried: those up to the one that passes, or all
+pub tried-found : (test : ℕ → Bool) (work : ℕ → ℕ) (w i n s : ℕ) → ((j : ℕ) → j < i + n → work j ≡ w) → i ≤ s → s < i + n → test s ≡ true → ((j : ℕ) → j < s → test j ≡ false)
+    → i * w + triedWork test work i n ≡ (s + 1) * w
+tried-found test work w i zero s each l h t p = absurd (omega arith)
+tried-found test work w i (suc n) s each l h t p =
+    go (λ less. tried-found test work w (suc i) n s (λ j k. each j (omega arith)) less (omega arith) t p) (ℕ-discrete i s)
+  where
+    go : (suc i ≤ s → suc i * w + triedWork test work (suc i) n ≡ (s + 1) * w) → Dec (i ≡ s)
+        → i * w + (work i + cond (test i) 0 (triedWork test work (suc i) n)) ≡ (s + 1) * w
+    go ih (yes e) =
+        ap (λ (b : Bool). i * w + (work i + cond b 0 (triedWork test work (suc i) n))) (ap test e ∙ t)
+        ∙ omega (arith, each i (omega arith), ap (λ (k : ℕ). k * w) e, add-mul s 1 w)
+    go ih (no e) =
+        ap (λ (b : Bool). i * w + (work i + cond b 0 (triedWork test work (suc i) n))) (p i (omega (arith, e)))
+        ∙ omega (arith, each i (omega arith), add-mul i 1 w, ap (λ (k : ℕ). k * w) (add-one i), ih (omega (arith, e)))
+
+pub tried-all : (test : ℕ → Bool) (work : ℕ → ℕ) (w i n : ℕ) → ((j : ℕ) → j < i + n → work j ≡ w) → ((j : ℕ) → j < i + n → test j ≡ false)
+    → i * w + triedWork test work i n ≡ (i + n) * w
+tried-all test work w i zero each p = omega (arith, ap (λ (k : ℕ). k * w) (add-zero i))
+tried-all test work w i (suc n) each p =
+    ap (λ (b : Bool). i * w + (work i + cond b 0 (triedWork test work (suc i) n))) (p i (omega arith))
+    ∙ omega
+    (
+      arith,
+      each i (omega arith),
+      add-mul i 1 w,
+      ap (λ (k : ℕ). k * w) (add-one i),
+      ap (λ (k : ℕ). k * w) (suc-add i n ∙ sym (add-suc i n)),
+      tried-all test work w (suc i) n (λ j k. each j (omega arith)) (λ j k. p j (omega arith)),
+    )
 
 -- ---- the search for it
 
@@ -299,7 +333,7 @@ module _ (keyLength : ℕ) (ring bytes lens input output scratch : List ℕ) whe
   ring-judged e = first-none (ringRows keyLength (length ring)) restRows refl e
 
   -- with any slot's key the judgement is the same
-  slot-judged : first (ringRows keyLength (length ring)) ≡ 0 → (i : ℕ) → i < slotCount keyLength (length ring)
+  pub slot-judged : first (ringRows keyLength (length ring)) ≡ 0 → (i : ℕ) → i < slotCount keyLength (length ring)
       → openJudged (slotKey keyLength ring i) bytes lens input output scratch ≡ restJudged
   slot-judged z i h =
       ap (λ (m : ℕ). first (headerRows m lens (length bytes) ++ openRows (length input) (length output) (length scratch)))
@@ -307,6 +341,49 @@ module _ (keyLength : ℕ) (ring bytes lens input output scratch : List ℕ) whe
 
   pub slot-passed : ringJudged ≡ 0 → (i : ℕ) → i < slotCount keyLength (length ring) → openJudged (slotKey keyLength ring i) bytes lens input output scratch ≡ 0
   slot-passed e i h = slot-judged (ring-judged e .0) i h ∙ ring-judged e .1
+
+  -- where one key is refused by it, no key has work
+  pub ring-idle : first (ringRows keyLength (length ring)) ≡ 0 → (s : ℕ) → s < slotCount keyLength (length ring)
+      → (openJudged (slotKey keyLength ring s) bytes lens input output scratch ≡ 0 → ⊥) → ringWork keyLength ring bytes lens input output scratch ≡ 0
+  ring-idle z s h due =
+      tried-none _ _ 0 (slotCount keyLength (length ring))
+      (λ j k. open-due-work (slotKey keyLength ring j) bytes lens input output scratch (λ y. due (slot-judged z s h ∙ sym (slot-judged z j (omega arith)) ∙ y)))
+
+  -- past it the work is one key's, times the keys tried
+  pub ring-work : first (ringRows keyLength (length ring)) ≡ 0 → {s : ℕ} → Chosen (opensAt keyLength ring bytes lens input output scratch) (slotCount keyLength (length ring)) s
+      → openJudged (slotKey keyLength ring s) bytes lens input output scratch ≡ 0
+      → ringWork keyLength ring bytes lens input output scratch
+      ≡ cond (opensAt keyLength ring bytes lens input output scratch s) (s + 1) (slotCount keyLength (length ring)) * blockWork lens (length input - 16)
+  ring-work z g judged = go g judged
+    where
+      count : ℕ
+      count = slotCount keyLength (length ring)
+
+      some : 1 ≤ count
+      some = ring-admits keyLength (length ring) z .1 .some
+
+      each : (s : ℕ) → s < count → openJudged (slotKey keyLength ring s) bytes lens input output scratch ≡ 0 → (j : ℕ) → j < 0 + count
+          → workAt keyLength ring bytes lens input output scratch j ≡ blockWork lens (length input - 16)
+      each s h judged j k =
+          let passed = slot-judged z j (omega arith) ∙ sym (slot-judged z s h) ∙ judged in
+          open-work (slotKey keyLength ring j) bytes lens input output scratch passed
+          ∙ genuine-lengths (slotKey keyLength ring j) bytes lens input (omega (arith, open-admits (slotKey keyLength ring j) bytes lens input output scratch passed .listed))
+
+      go : {s : ℕ} → Chosen (opensAt keyLength ring bytes lens input output scratch) count s → openJudged (slotKey keyLength ring s) bytes lens input output scratch ≡ 0
+          → ringWork keyLength ring bytes lens input output scratch
+          ≡ cond (opensAt keyLength ring bytes lens input output scratch s) (s + 1) count * blockWork lens (length input - 16)
+      go (found {s} h t p) judged =
+          simp t
+          (omega (arith, zero-mul (blockWork lens (length input - 16)), tried-found _ _ (blockWork lens (length input - 16)) 0 count s (each s h judged) (omega arith) (omega arith) t p))
+      go (none p) judged =
+          simp (p 0 some)
+          (omega
+          (
+            arith,
+            zero-mul (blockWork lens (length input - 16)),
+            ap (λ (k : ℕ). k * blockWork lens (length input - 16)) (zero-add count),
+            tried-all _ _ (blockWork lens (length input - 16)) 0 count (each 0 some judged) (λ j k. p j (omega arith)),
+          ))
 
   -- a refusal of the judgement is the ring's
   pub ring-refused : (answer : Answer) → (outcomeOf answer 0 .number ≡ 0 → ⊥) → outcomeOf answer 0 ≡ withoutLength ringJudged
@@ -324,11 +401,8 @@ module _ (keyLength : ℕ) (ring bytes lens input output scratch : List ℕ) whe
           let pass : ringJudged ≡ restJudged = first-pass (ringRows keyLength (length ring)) restRows refl z in
           let within = chosen-within _ _ (ring-admits keyLength (length ring) z .1 .some) g in
           let judged = slot-judged z s within in
-          let due-at : (i : ℕ) → i < slotCount keyLength (length ring) → openJudged (slotKey keyLength ring i) bytes lens input output scratch ≡ 0 → ⊥ =
-          λ i h y. k (ap (λ (o : Outcome). o .number) e ∙ pass ∙ sym (slot-judged z i h) ∙ y) in
-          let due = due-at s within in
-          let none : ringWork keyLength ring bytes lens input output scratch ≡ 0 =
-          tried-none _ _ 0 (slotCount keyLength (length ring)) (λ j h. open-due-work (slotKey keyLength ring j) bytes lens input output scratch (due-at j (omega arith))) in
+          let due : openJudged (slotKey keyLength ring s) bytes lens input output scratch ≡ 0 → ⊥ = λ y. k (ap (λ (o : Outcome). o .number) e ∙ pass ∙ sym judged ∙ y) in
+          let none = ring-idle z s within due in
           let refused = open-refused (slotKey keyLength ring s) bytes lens input output scratch answer k (e ∙ ap withoutLength (pass ∙ sym judged)) in
           let closed : opensAt keyLength ring bytes lens input output scratch s ≡ false =
           ne-eqb (openSlot keyLength ring bytes lens input output scratch s .outcome .number) 0 (λ y. due (sym (open-due (slotKey keyLength ring s) bytes lens input output scratch due) ∙ y)) in
