@@ -132,8 +132,7 @@ module _ (key bytes lens : List ℕ) (a : Admits key bytes lens) (n : ℕ) where
 
   rest-listed : total (drop n lens) ≤ length (restBytes key bytes lens n)
   rest-listed =
-      omega
-      (
+      omega (
         arith,
         length-drop (total (take n lens)) bytes,
         sym (total-append (take n lens) (drop n lens)) ∙ ap total (take-append-drop n lens),
@@ -146,8 +145,7 @@ module _ (key bytes lens : List ℕ) (a : Admits key bytes lens) (n : ℕ) where
         made = ap (λ (r : MakeResult). r .outcome) (made key (firstBytes key bytes lens n) (take n lens) front-admitted);
         begins = begins;
         works = λ begin e.
-            omega
-            (
+            omega (
               arith,
               ap (λ (r : MakeResult). r .outcome .work) (made key (firstBytes key bytes lens n) (take n lens) front-admitted),
               begun-work key bytes lens (divided n) begin e,

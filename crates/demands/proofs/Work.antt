@@ -4,7 +4,7 @@ use mathlib.Core.Path.{_≡_, refl, ap, ap₂, sym, subst, _∙_}
 use mathlib.Core.Bool.{Bool, true, false, not, cond, and-false, _&&_, _||_}
 use mathlib.Core.List.{List, [], _∷_, _++_}
 use Prim.Native.Nat.{ℕ, _+_, _-_, _%_, _≤_}
-use native.Mathlib.Nat.{add-zero}
+use native.Mathlib.Nat.{zero-add}
 use native.Mathlib.Omega.{arith}
 use lib.Dec.{eqb, ltb}
 use lib.ListN.{length, take, drop, length-append, take-append-drop}
@@ -12,7 +12,7 @@ use borrow.Author.Tests.{eq-eqb, le-ltb, ltb-false}
 use Rattle.aes.specs.Aes.{isWidth, aes}
 use Rattle.s2v.specs.S2v.{tailLength}
 use Rattle.ctr.specs.Counter.{begunBlock}
-use Rattle.siv.specs.Answer.{Outcome}
+use Rattle.siv.specs.Answer.{Outcome, withoutLength}
 use Rattle.siv.specs.Calls.{CallResult, isKeyLength, limit, sealTable, sealNumber, sealCall, openNumber, openCall}
 use Rattle.siv.specs.Siv.{ctrKey}
 use Rattle.siv.specs.Work.{sixteenths, blocksOf, blocksOfAll, blockWork, plannedWork}
@@ -21,7 +21,7 @@ use Rattle.siv.proofs.Lengths.{blocks-append}
 use Rattle.stream.specs.declared.Stream.{Stream}
 use Rattle.stream.specs.State.{allZero, writtenLimit, streamPlace, keptFits, fits}
 use Rattle.stream.specs.Steps.{StepResult}
-use Rattle.kinphlor.specs.Interface.{aeadLens, emptyNonce, fromC, plannedFromC}
+use Rattle.kinphlor.specs.Interface.{aeadLens, emptyNonce, fromC, sealFromC, openFromC, plannedFromC}
 use Rattle.demands.specs.Model.{ModelState, fresh, wants, chained, After, wholeAccepts, modelStep, modelRun}
 use Rattle.demands.specs.Run.{Begin, sealer, opener, Start, undivided, divided, Call, add, turn, write, close, feed, finish, begun, firstHead, Entry, run}
 use Rattle.demands.specs.Third.{beginWork, AsModel}
@@ -29,7 +29,7 @@ use Rattle.demands.specs.Whole.{Admits}
 use Rattle.demands.specs.Work.{Reported, workOf, headWork, AddsUp, ownBlock, BlockWork}
 use Rattle.demands.proofs.First.{answers-or-first-refusal}
 use Rattle.demands.proofs.Head.{divided-as-undivided}
-use Rattle.demands.proofs.Steps.{modelOf, Known, adding, writing, closed, feeding, finished, call-misfit, model-wrong, unwanted}
+use Rattle.demands.proofs.Steps.{modelOf, Known, adding, writing, closed, feeding, finished, call-misfit, model-wrong, unwanted, step}
 use Rattle.demands.proofs.Third.{runs, sealer-known, opener-known, accepts-the-sealed-and-follows-the-model}
 
 -- ---- planning
@@ -68,18 +68,193 @@ module _ (key bytes lens input output scratch : List ℕ) where
 from-c : (key output scratch : List ℕ) (ad nonce n : ℕ) (call : CallResult) → Reported call (plannedWork (aeadLens ad nonce) n) → (isKeyLength (length key) ≡ false → call .outcome .number ≡ 1)
     → Reported (fromC nonce key output scratch call) (plannedFromC ad nonce n)
 unfolding fromC emptyNonce plannedFromC
-from-c key output scratch ad nonce n call r unkeyed = go (isKeyLength (length key)) refl (eqb nonce 0) refl
+from-c key output scratch ad nonce n call r unkeyed = go (isKeyLength (length key)) unkeyed (eqb nonce 0)
   where
-    go : (k : Bool) → isKeyLength (length key) ≡ k → (z : Bool) → eqb nonce 0 ≡ z → Reported (fromC nonce key output scratch call) (plannedFromC ad nonce n)
-    go true k true z = ?
-    go true k false z = ?
-    go false k z e = ?
+    ten : CallResult
+    ten = record { outcome = withoutLength 10; output = output; scratch = scratch }
+
+    go : (k : Bool) → (k ≡ false → call .outcome .number ≡ 1) → (z : Bool) → Reported (cond (k && z) ten call) (cond z 0 (plannedWork (aeadLens ad nonce) n))
+    go true u true = record { done = λ e. omega (arith, e); forged = λ e. omega (arith, e) }
+    go true u false = r
+    go false u z = record { done = λ e. absurd (omega (arith, e, u refl)); forged = λ e. absurd (omega (arith, e, u refl)) }
+
+module _ (key header input output scratch : List ℕ) (ad nonce : ℕ) where
+  seals-from-c : Reported (sealFromC key header ad nonce input output scratch) (plannedFromC ad nonce (length input))
+  unfolding sealCall sealNumber
+  seals-from-c = from-c key output scratch ad nonce (length input) _ (seals key header (aeadLens ad nonce) input output scratch) (λ k. simp k)
+
+  opens-from-c : Reported (openFromC key header ad nonce input output scratch) (plannedFromC ad nonce (length input - 16))
+  unfolding openCall openNumber
+  opens-from-c = from-c key output scratch ad nonce (length input - 16) _ (opens key header (aeadLens ad nonce) input output scratch) (λ k. simp k)
 
 -- ---- lists of calls
 
--- what is reported of the work between begin and what the model keeps
-abbrev sofar : Begin → ModelState → ℕ
-sofar begin b = ?
+-- what was reported since begin, by what the model keeps
+abbrev reported : Begin → ModelState → ℕ
+reported sealer b =
+    cond (eqb (b .stage) 1) (chained (length (b .A)))
+    (cond (eqb (b .stage) 2) (blocksOf (length (b .A)) + sixteenths (length (b .W))) (blocksOf (length (b .A)) + sixteenths (length (b .A))))
+reported (opener T) b = cond (eqb (b .stage) 3) (chained (length (b .A)) + sixteenths (length (b .A))) (blocksOf (length (b .A)) + sixteenths (length (b .A)))
+
+module _ (key bytes lens shared : List ℕ) (a : Admits key bytes lens) where
+  -- a call reports what it adds
+  abbrev Adds : Begin → ModelState → Call → Type 0
+  Adds begin b c =
+      modelStep key bytes lens begin shared b c .entry .outcome .work + reported begin b ≡ reported begin (modelStep key bytes lens begin shared b c .model)
+
+  -- a refused one none
+  wrong : (begin : Begin) (b : ModelState) (c : Call) → eqb (b .stage) (wants c) ≡ false → Adds begin b c
+  wrong begin b c e =
+      let refused = model-wrong key bytes lens shared a begin b c e in
+      ap₂ _+_ (ap (λ (x : After). x .entry .outcome .work) refused) refl ∙ zero-add (reported begin b) ∙ ap (λ (x : After). reported begin (x .model)) (sym refused)
+
+  add-adds : (A piece : List ℕ) → Adds sealer (modelOf 1 A []) (add piece)
+  unfolding modelStep
+  add-adds A piece = go (ltb limit (length (A ++ piece))) refl
+    where
+      go : (t : Bool) → ltb limit (length (A ++ piece)) ≡ t → Adds sealer (modelOf 1 A []) (add piece)
+      go true e = simp e (zero-add _)
+      go false e = simp e (omega (arith, length-append A piece))
+
+  turn-adds : (A output : List ℕ) → Adds sealer (modelOf 1 A []) (turn output)
+  unfolding modelStep
+  turn-adds A output = go (ltb (length output) 16) refl
+    where
+      go : (t : Bool) → ltb (length output) 16 ≡ t → Adds sealer (modelOf 1 A []) (turn output)
+      go true e = simp e (zero-add _)
+      go false e = simp e (omega arith)
+
+  write-adds : (A W piece output : List ℕ) → Adds sealer (modelOf 2 A W) (write piece output)
+  unfolding modelStep
+  write-adds A W piece output = go (ltb (length A) (length (W ++ piece))) refl (ltb (length output) (length piece)) refl
+    where
+      go : (t : Bool) → ltb (length A) (length (W ++ piece)) ≡ t → (u : Bool) → ltb (length output) (length piece) ≡ u → Adds sealer (modelOf 2 A W) (write piece output)
+      go true e u f = simp e (zero-add _)
+      go false e true f = simp (e, f) (zero-add _)
+      go false e false f = simp (e, f) (omega (arith, length-append W piece))
+
+  close-adds : (A W : List ℕ) → length W ≤ length A → Adds sealer (modelOf 2 A W) close
+  unfolding modelStep
+  close-adds A W shorter = go (ltb (length W) (length A)) refl
+    where
+      go : (t : Bool) → ltb (length W) (length A) ≡ t → Adds sealer (modelOf 2 A W) close
+      go true e = simp e (zero-add _)
+      go false e =
+          let all : length W ≡ length A = omega (arith, ltb-false (length W) (length A) e) in
+          simp e (zero-add _ ∙ ap (λ (n : ℕ). blocksOf (length A) + sixteenths n) all)
+
+  feed-adds : (T A piece : List ℕ) → Adds (opener T) (modelOf 3 A []) (feed piece)
+  unfolding modelStep
+  feed-adds T A piece = go (ltb limit (length (A ++ piece))) refl (ltb (length shared) (length (A ++ piece))) refl
+    where
+      go : (t : Bool) → ltb limit (length (A ++ piece)) ≡ t → (u : Bool) → ltb (length shared) (length (A ++ piece)) ≡ u → Adds (opener T) (modelOf 3 A []) (feed piece)
+      go true e u f = simp e (zero-add _)
+      go false e true f = simp (e, f) (zero-add _)
+      go false e false f = simp (e, f) (omega (arith, length-append A piece))
+
+  finish-adds : (T A : List ℕ) → Adds (opener T) (modelOf 3 A []) finish
+  unfolding modelStep
+  finish-adds T A = go (wholeAccepts key bytes lens T A) refl
+    where
+      go : (t : Bool) → wholeAccepts key bytes lens T A ≡ t → Adds (opener T) (modelOf 3 A []) finish
+      go true e = simp e (omega arith)
+      go false e = simp e (omega arith)
+
+  adds : (begin : Begin) (b : ModelState) (s : Stream) (o : List ℕ) (c : Call) → Known key bytes lens shared begin b s o → Adds begin b c
+  adds begin b s o (add piece) (adding A l) = add-adds A piece
+  adds begin b s o (turn output) (adding A l) = turn-adds A output
+  adds begin b s o (write piece output) (adding A l) = wrong sealer (modelOf 1 A []) (write piece output) refl
+  adds begin b s o close (adding A l) = wrong sealer (modelOf 1 A []) close refl
+  adds begin b s o (feed piece) (adding A l) = wrong sealer (modelOf 1 A []) (feed piece) refl
+  adds begin b s o finish (adding A l) = wrong sealer (modelOf 1 A []) finish refl
+  adds begin b s o (add piece) (writing A W l w) = wrong sealer (modelOf 2 A W) (add piece) refl
+  adds begin b s o (turn output) (writing A W l w) = wrong sealer (modelOf 2 A W) (turn output) refl
+  adds begin b s o (write piece output) (writing A W l w) = write-adds A W piece output
+  adds begin b s o close (writing A W l w) = close-adds A W w
+  adds begin b s o (feed piece) (writing A W l w) = wrong sealer (modelOf 2 A W) (feed piece) refl
+  adds begin b s o finish (writing A W l w) = wrong sealer (modelOf 2 A W) finish refl
+  adds begin b s o (add piece) (feeding T A t l r) = wrong (opener T) (modelOf 3 A []) (add piece) refl
+  adds begin b s o (turn output) (feeding T A t l r) = wrong (opener T) (modelOf 3 A []) (turn output) refl
+  adds begin b s o (write piece output) (feeding T A t l r) = wrong (opener T) (modelOf 3 A []) (write piece output) refl
+  adds begin b s o close (feeding T A t l r) = wrong (opener T) (modelOf 3 A []) close refl
+  adds begin b s o (feed piece) (feeding T A t l r) = feed-adds T A piece
+  adds begin b s o finish (feeding T A t l r) = finish-adds T A
+  adds begin b s o c (closed A W) = wrong sealer (modelOf 0 A W) c (unwanted c)
+  adds begin b s o c (finished T A _ e) = wrong (opener T) (modelOf 0 A []) c (unwanted c)
+
+  -- and so does a list of calls
+  all-add : (begin : Begin) (calls : List Call) (b : ModelState) (s : Stream) (o : List ℕ) → Known key bytes lens shared begin b s o
+      → workOf (modelRun key bytes lens begin shared b calls .entries) + reported begin b ≡ reported begin (modelRun key bytes lens begin shared b calls .model)
+  all-add begin [] b s o k = zero-add (reported begin b)
+  all-add begin (c ∷ cs) b s o k =
+      let rest = all-add begin cs _ _ _ (step key bytes lens shared a begin b s o c k .next) in
+      omega (arith, adds begin b s o c k, rest)
+
+  -- the head's work and begin's are those of all header strings
+  begin-adds : (start : Start) → headWork key bytes lens start + beginWork lens start ≡ 2 + blocksOfAll lens
+  begin-adds undivided = zero-add _
+  begin-adds (divided n) =
+      omega (
+        arith,
+        ap (λ (o : Outcome). o .work) (divided-as-undivided .splits key bytes lens a n .made),
+        sym (blocks-append (take n lens) (drop n lens)) ∙ ap blocksOfAll (take-append-drop n lens),
+      )
+
+  -- in stage 0 all of the sum is reported
+  at-end : (begin : Begin) (b : ModelState) → b .stage ≡ 0 → reported begin b ≡ blocksOf (length (b .A)) + sixteenths (length (b .A))
+  at-end sealer b e = simp e
+  at-end (opener T) b e = simp e
+
+  none-yet : (begin : Begin) → reported begin (fresh begin) ≡ 0
+  none-yet sealer = refl
+  none-yet (opener T) = refl
+
+  adds-up : (begin : Begin) (calls : List Call) (start : Start) → AsModel key bytes lens begin shared calls start
+      → Known key bytes lens shared begin (fresh begin) (begun key bytes lens start begin .state) shared → AddsUp key bytes lens begin shared calls start
+  adds-up begin calls start m k ended =
+      let b = modelRun key bytes lens begin shared (fresh begin) calls .model in
+      omega (
+        arith,
+        begin-adds start,
+        ap (λ (o : Outcome). o .work) (m .begins),
+        ap workOf (m .entries),
+        all-add begin calls (fresh begin) _ shared k,
+        none-yet begin,
+        at-end begin b ended,
+      )
+
+  -- ---- the kept block
+
+  known-kept : (begin : Begin) (b : ModelState) (s : Stream) (o : List ℕ) → Known key bytes lens shared begin b s o → s .kept ≡ ownBlock key bytes lens begin b
+  known-kept begin b s o (adding A l) = refl
+  known-kept begin b s o (writing A W l w) = refl
+  known-kept begin b s o (closed A W) = refl
+  known-kept begin b s o (feeding T A t l r) = ap (begunBlock (aes (ctrKey key)) T) (length-streamed key T A)
+  known-kept begin b s o (finished T A _ e) = refl
+
+-- where it may not be kept, 9 is due
+misfit : (wanted : ℕ) (s : Stream) → streamPlace wanted s % 16 ≡ 0 → allZero (s .kept) ≡ false → fits wanted s ≡ false
+unfolding fits keptFits
+misfit wanted s whole some =
+    let before : Bool =
+    eqb (s .stage) wanted && isWidth (s .width) && not (ltb limit (s .total)) && not (ltb (writtenLimit wanted (s .total)) (s .written)) && eqb (s .«tail_len») (tailLength (s .total)) in
+    ap (λ (t : Bool). before && t && allZero (drop (tailLength (s .total)) (s .tail))) (ap₂ (λ (t u : Bool). not t || u) (eq-eqb (streamPlace wanted s % 16) 0 whole) some)
+    ∙ ap (λ (t : Bool). t && allZero (drop (tailLength (s .total)) (s .tail))) (and-false before)
 
 pub reports-and-adds-up : BlockWork
-reports-and-adds-up = ?
+reports-and-adds-up =
+    record {
+      seals = seals;
+      opens = opens;
+      sealsFromC = seals-from-c;
+      opensFromC = opens-from-c;
+      sealers = λ key bytes lens a start shared calls.
+          adds-up key bytes lens shared a sealer calls start (accepts-the-sealed-and-follows-the-model key bytes lens a .sealers start shared calls) (sealer-known key bytes lens a shared start);
+      openers = λ key bytes lens a start T shared calls t.
+          adds-up key bytes lens shared a (opener T) calls start (accepts-the-sealed-and-follows-the-model key bytes lens a .openers start T shared calls t) (opener-known key bytes lens a shared start T t);
+      sealersKeep = λ key bytes lens a start shared calls.
+          known-kept key bytes lens shared a sealer _ _ _ (runs key bytes lens a shared sealer calls (fresh sealer) _ shared (sealer-known key bytes lens a shared start) .1);
+      openersKeep = λ key bytes lens a start T shared calls t.
+          known-kept key bytes lens shared a (opener T) _ _ _ (runs key bytes lens a shared (opener T) calls (fresh (opener T)) _ shared (opener-known key bytes lens a shared start T t) .1);
+      judged = λ s shared c whole some. call-misfit s shared c (misfit (wants c) s whole some);
+    }

@@ -47,7 +47,7 @@ module _ (keyLength slots : ℕ) (ring bytes lens y : List ℕ) where
   pub record ThirdRing (output : List ℕ) (result : RingResult) : Type 0 where
     -- opening accepts y with P, and gives slot i, exactly when P seals to y under slot i's key and nothing does under an earlier one
     pub accepts : (P : List ℕ) → Accepts (result .call) output P → SealsUnder (result .slot) P × ((j : ℕ) (Q : List ℕ) → SealsUnder j Q → result .slot ≤ j)
-    pub accepted : (i : ℕ) (P : List ℕ) → SealsUnder i P → ((j : ℕ) (Q : List ℕ) → SealsUnder j Q → i ≤ j) 
+    pub accepted : (i : ℕ) (P : List ℕ) → SealsUnder i P → ((j : ℕ) (Q : List ℕ) → SealsUnder j Q → i ≤ j)
         → Gives (result .call) ((i + 1) * blockWork lens (length P)) output P × (result .slot ≡ i)
     -- it accepts y where anything seals to y under some key of the ring
     pub opens : (i : ℕ) (P : List ℕ) → SealsUnder i P → result .call .outcome .number ≡ 0

@@ -160,8 +160,7 @@ pub tried-all : (test : ℕ → Bool) (work : ℕ → ℕ) (w i n : ℕ) → ((j
 tried-all test work w i zero each p = omega (arith, ap (λ (k : ℕ). k * w) (add-zero i))
 tried-all test work w i (suc n) each p =
     ap (λ (b : Bool). i * w + (work i + cond b 0 (triedWork test work (suc i) n))) (p i (omega arith))
-    ∙ omega
-    (
+    ∙ omega (
       arith,
       each i (omega arith),
       add-mul i 1 w,
@@ -377,8 +376,7 @@ module _ (keyLength : ℕ) (ring bytes lens input output scratch : List ℕ) whe
           (omega (arith, zero-mul (blockWork lens (length input - 16)), tried-found _ _ (blockWork lens (length input - 16)) 0 count s (each s h judged) (omega arith) (omega arith) t p))
       go (none p) judged =
           simp (p 0 some)
-          (omega
-          (
+          (omega (
             arith,
             zero-mul (blockWork lens (length input - 16)),
             ap (λ (k : ℕ). k * blockWork lens (length input - 16)) (zero-add count),
