@@ -6,9 +6,9 @@
  *
  * kinphlor_seal and kinphlor_open work under one key. kinphlor_open_ring is for the time in which keys change: it tries
  * the keys of a ring from slot 0 on and stops at the first that opens the record. With a ring of one key it does what
- * kinphlor_open does.
+ * kinphlor_open does. kinphlor_planned_work, below, tells beforehand how many blocks a record takes.
  *
- * All take the same arguments but for the keys. n is the plaintext's length.
+ * The other three take the same arguments but for the keys. n is the plaintext's length.
  *
  *   key, key_len        seal, open: 32, 48 or 64 bytes. The first half serves the tag, the second half the key stream.
  *   key_len,            open_ring: the length of one key, 32, 48 or 64; and the ring, one to four keys of that length,
@@ -20,7 +20,7 @@
  *   scratch,            working memory: n bytes, and at least 16 (kinphlor_scratch_len)
  *     scratch_len
  *
- * The result is one number: the answer times 2 to the power 32, plus a slot times 2 to the power 28, plus a length
+ * Their result is one number: the answer times 2 to the power 32, plus a slot times 2 to the power 28, plus a length
  * (kinphlor_number, kinphlor_slot, kinphlor_length). The slot is that of the ring's key that opened the record; it is 0
  * from seal and open, and after a refusal. The length is that of what was written from the front of the output, and 0
  * after a refusal. The answers are listed below; where several are due, the first in this order is given: 1, 11, 10, 2,
@@ -93,6 +93,18 @@ uint64_t kinphlor_open(const uint8_t *key, size_t key_len, const uint8_t *header
 uint64_t kinphlor_open_ring(size_t key_len, const uint8_t *ring, size_t ring_len, const uint8_t *header,
                             size_t header_len, uint32_t ad_len, uint32_t nonce_len, const uint8_t *input,
                             size_t input_len, uint8_t *output, size_t output_len, uint8_t *scratch, size_t scratch_len);
+
+/*
+ * The work of one record in blocks of 16 bytes that go through the cipher, from lengths alone: what kinphlor_seal takes
+ * for n bytes of plaintext, and kinphlor_open for what that gives. It is 2, plus the blocks of associated data, nonce and
+ * plaintext (a short last block is one, and an empty string has one), plus n divided by 16, rounded up. It is 0 where the
+ * call is refused for one of these lengths: nonce_len is 0, or n is over 1,048,576.
+ *
+ * kinphlor_open_ring takes it once for each key that it tries: slot + 1 times for a record that opens, as often as the
+ * ring has keys for one that is forged, and so at most four times. A forged record takes as much as a genuine one; any
+ * other refusal comes before the cipher's first block.
+ */
+uint64_t kinphlor_planned_work(uint32_t ad_len, uint32_t nonce_len, size_t n);
 
 /* The answer in a result: one of enum kinphlor_answer. */
 static inline uint32_t kinphlor_number(uint64_t result) { return (uint32_t)(result >> 32); }

@@ -78,6 +78,6 @@ fn whole(function: Function, given: &Given, output: &mut [u8]) -> u64 {
     let len = input_len(function);
     let mut scratch = [0; LEN];
     let records = given.input.chunks(len).zip(output.chunks_mut(function.output_need(len)));
-    let numbers = records.map(|(input, output)| probe::whole(function, &Given { input, ..*given }, output, &mut scratch).0);
+    let numbers = records.map(|(input, output)| probe::whole(function, &Given { input, ..*given }, output, &mut scratch).0.0);
     numbers.max().unwrap_or(0)
 }

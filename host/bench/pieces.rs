@@ -67,7 +67,7 @@ fn ratios(function: Function, given: &Given, want: &[u8]) -> [f64; 3] {
     let mut scratch = vec![0; function.scratch_need(given.input.len())];
     let mut run = |which: usize| {
         let number = match which {
-            0 => probe::whole(function, given, &mut output, &mut scratch).0,
+            0 => probe::whole(function, given, &mut output, &mut scratch).0.0,
             _ => probe::by_pieces(function, given, PIECES[which - 1], &mut output).0,
         };
         check::holds(|| format!("{function:?}, way {which}: {number}"), number == 0 && output == want);

@@ -1,4 +1,4 @@
-/* kinphlor.h called from C and C++: sealing, opening, rings, damaged records, NULL for empty buffers, and the texts. */
+/* kinphlor.h called from C and C++: sealing, opening, rings, damaged records, NULL for empty buffers, planned work, texts. */
 #include "kinphlor.h"
 
 #include <stdio.h>
@@ -188,6 +188,35 @@ static void ring_nulls(void) {
                  KINPHLOR_OK, 1, 0, __LINE__);
 }
 
+/* The blocks of lengths at the edges, each worked out by hand from the sum that the header states. */
+static void planned(void) {
+    static const struct {
+        uint32_t ad_len, nonce_len;
+        size_t n;
+        uint64_t blocks;
+    } rows[] = {
+        {0, 1, 0, 2 + 1 + 1 + 1 + 0},
+        {0, 16, 1, 2 + 1 + 1 + 1 + 1},
+        {1, 17, 15, 2 + 1 + 2 + 1 + 1},
+        {15, 15, 16, 2 + 1 + 1 + 1 + 1},
+        {16, 32, 17, 2 + 1 + 2 + 2 + 2},
+        {17, 33, 32, 2 + 2 + 3 + 2 + 2},
+        {8, 8, 40, 2 + 1 + 1 + 3 + 3},
+        {1000, 12, KINPHLOR_LIMIT - 15, 2 + 63 + 1 + 65536 + 65536},
+        {0, 1, KINPHLOR_LIMIT, 2 + 1 + 1 + 65536 + 65536},
+        {UINT32_MAX, UINT32_MAX, KINPHLOR_LIMIT, 2 + 268435456 + 268435456 + 65536 + 65536},
+        {0, 1, KINPHLOR_LIMIT + 1, 0},
+        {8, 8, SIZE_MAX, 0},
+        {8, 0, 40, 0},
+        {0, 0, 0, 0},
+    };
+    size_t i;
+
+    for (i = 0; i < sizeof rows / sizeof rows[0]; i++) {
+        CHECK("planned work", kinphlor_planned_work(rows[i].ad_len, rows[i].nonce_len, rows[i].n) == rows[i].blocks);
+    }
+}
+
 /* The numbers are those of the table, and each has a text of its own. */
 static void texts(void) {
     static const uint32_t numbers[] = {KINPHLOR_OK,             KINPHLOR_KEY_LENGTH,    KINPHLOR_HEADER_COUNT,
@@ -228,6 +257,7 @@ int main(void) {
     }
     nulls();
     ring_nulls();
+    planned();
     texts();
     printf("c: %u checks passed\n", checks);
     return 0;

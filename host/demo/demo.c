@@ -81,6 +81,12 @@ static uint64_t open_changing(const uint8_t ring[KEYS * KEY_LEN], struct lane la
                               record, RECORD_LEN, scratch, sizeof scratch);
 }
 
+/*
+ * How many blocks the cipher works to seal a record, or to try a key on one. A wall unit that knows a block's time knows
+ * by it when a record will be sealed.
+ */
+static uint64_t record_work(void) { return kinphlor_planned_work(AD_LEN, NONCE_LEN, RECORD_LEN); }
+
 /* Whether a result has this answer and this length. */
 static int is(uint64_t result, uint32_t number, uint32_t length) {
     return kinphlor_number(result) == number && kinphlor_length(result) == length;
@@ -205,6 +211,15 @@ static void show_answer(uint64_t result) {
     printf("  %-14s %u, %s\n", "answer", (unsigned)kinphlor_number(result), kinphlor_text(kinphlor_number(result)));
 }
 
+/* The blocks of a record that was sealed once and then tried with so many keys. */
+static void show_work(unsigned keys) {
+    const uint64_t work = record_work();
+
+    must("a record takes 2 blocks, 1 for the lane, 1 for its number, and 3 and 3 for 40 bytes", work == 10);
+    printf("  %-14s %" PRIu64 " blocks to seal, %" PRIu64 " to open: %u %s tried\n", "work", work, keys * work, keys,
+           keys == 1 ? "key" : "keys");
+}
+
 static void show_colour(uint64_t result) {
     printf("  %-14s %s\n\n", "the lane is", colour(result));
 }
@@ -226,6 +241,7 @@ static void show_record(const uint8_t key[KEY_LEN], uint64_t number, const char 
     must("it opens to what was sealed", memcmp(opened, record, RECORD_LEN) == 0);
     show_opened(opened);
     show_answer(result);
+    show_work(1);
     show_colour(result);
 }
 
@@ -249,6 +265,7 @@ static void show_damaged(const uint8_t key[KEY_LEN], uint64_t number, const uint
     must("a damaged record is refused with 8", is(result, KINPHLOR_FORGED, 0));
     must("its output is zeros", memcmp(opened, ZEROS, RECORD_LEN) == 0);
     show_answer(result);
+    show_work(1);
     show_colour(result);
 }
 
@@ -274,12 +291,14 @@ static void show_changing(const uint8_t ring[KEYS * KEY_LEN], const uint8_t key[
         show_opened(opened);
         show_answer(result);
         printf("  %-14s %u, %s\n", "slot", (unsigned)kinphlor_slot(result), names[slot]);
+        show_work(slot + 1);
     } else {
         must("a record under neither key is refused with 8", is(result, KINPHLOR_FORGED, 0));
         must("a refusal has slot 0", kinphlor_slot(result) == 0);
         must("its output is zeros", memcmp(opened, ZEROS, RECORD_LEN) == 0);
         show("output", opened, RECORD_LEN, "wiped");
         show_answer(result);
+        show_work(KEYS);
     }
     show_colour(result);
 }

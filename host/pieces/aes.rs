@@ -1,8 +1,9 @@
-//! AES below the modes, by libcrypto: the round keys of a key, and the cipher under any round keys.
+//! AES below the modes, by libcrypto: the round keys of a key, and the cipher under any round keys, whose calls are counted.
 
 use shared::check;
 use shared::mac::Block;
 use std::ffi::c_int;
+use std::sync::atomic::{AtomicU64, Ordering};
 
 /// libcrypto's AES_KEY. The round keys stand in it as in FIPS 197.
 #[repr(C, align(4))]
@@ -26,6 +27,16 @@ pub fn round_keys(key: &[u8]) -> [u8; 240] {
     schedule.round_keys
 }
 
+/// How many blocks went through the cipher.
+static BLOCKS: AtomicU64 = AtomicU64::new(0);
+
+/// What some work gives, and how many blocks went through the cipher meanwhile.
+pub fn counted<T>(work: impl FnOnce() -> T) -> (T, u64) {
+    let before = BLOCKS.load(Ordering::Relaxed);
+    let gives = work();
+    (gives, BLOCKS.load(Ordering::Relaxed) - before)
+}
+
 pub struct Cipher(Schedule);
 
 impl Cipher {
@@ -36,7 +47,13 @@ impl Cipher {
 
     pub fn block(&self, block: Block) -> Block {
         let mut out = [0; 16];
+        BLOCKS.fetch_add(1, Ordering::Relaxed);
         unsafe { AES_encrypt(block.as_ptr(), out.as_mut_ptr(), &self.0) };
         out
+    }
+
+    /// The cipher on each block of a string.
+    pub fn blocks(&self, blocks: &[u8]) -> Vec<u8> {
+        blocks.chunks(16).flat_map(|block| self.block(block.try_into().unwrap())).collect()
     }
 }

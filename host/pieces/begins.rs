@@ -12,6 +12,7 @@ use shared::context::{Context, Peers};
 use shared::library::{KEY_LENS, TAG_LEN};
 use shared::table::{choices, Together};
 use shared::whole::Header;
+use shared::work;
 
 /// What a call gives.
 #[derive(Clone, Copy)]
@@ -39,6 +40,12 @@ const REFUSALS: [(u64, fn(&Case) -> bool); 5] = [
 ];
 
 impl Base<'_> {
+    /// The work of taking strings of these lengths in; a head's own is left out.
+    pub fn work(&self, lens: &[u32]) -> u64 {
+        let own = if let Base::Key(_) = self { work::KEY } else { 0 };
+        own + work::strings(lens)
+    }
+
     /// How many strings are taken in already.
     fn count(&self) -> u64 {
         match self {
@@ -75,7 +82,10 @@ impl Case<'_> {
     /// The call: its answer, and what it hands back. Gives the refusals that are due.
     pub fn check(&self, peers: &Peers) -> Vec<u64> {
         let due: Vec<u64> = REFUSALS.iter().filter(|(_, applies)| applies(self)).map(|row| row.0).collect();
-        let want = (due.first().copied().unwrap_or(0), 0);
+        let want = match due.first() {
+            Some(&number) => (number, 0, 0),
+            None => (0, 0, self.base.work(self.header.lens)),
+        };
         let check = |got| check::holds(|| format!("{}: expected {want:?}, got {got:?}", self.name()), got == want);
         let head = due.is_empty().then(|| self.head(peers));
         let begins = |tag: Option<&[u8]>| {

@@ -36,6 +36,7 @@ impl<'a> Fields<'a> {
         state.set_number(Field::Stage, model.stage);
         state.set(Field::Chain, &self.mac.chain(passed));
         state.set(Field::V, &model.tag);
+        state.set(Field::Kept, &model.kept());
         state.set_number(Field::Total, model.a.len() as u64);
         state.set_number(Field::Written, model.w.len() as u64);
         state.set_tail(tail);

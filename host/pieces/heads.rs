@@ -14,9 +14,10 @@ use shared::check;
 use shared::context::{Context, Peers};
 use shared::lent::Lent;
 use shared::library::{Function, KEY_LENS, LIMIT, TAG_LEN};
-use shared::probe::{records, whole, Answer};
+use shared::probe::{records, whole, Answer, Report};
 use shared::random::Random;
 use shared::whole::{self, Header, Room, Want};
+use shared::work;
 use Function::{Open, Seal};
 
 /// How often each count of strings is split at every place.
@@ -38,15 +39,16 @@ pub fn splits(Pieces { peers, random, .. }: &mut Pieces) {
     }
 }
 
-/// The call succeeds with length 0.
-fn done(what: impl Fn() -> String, answer: Answer) {
-    check::holds(|| format!("{}: expected (0, 0), got {answer:?}", what()), answer == (0, 0));
+/// The call succeeds with length 0 and the work of strings after a key or a head.
+fn done(what: impl Fn() -> String, base: Base, header: Header, report: Report) {
+    let want = (0, 0, base.work(header.lens));
+    check::holds(|| format!("{}: expected {want:?}, got {report:?}", what()), report == want);
 }
 
 /// A head of strings after a key or a head.
-fn made(base: Base, header: Header) -> Head {
-    let (answer, head) = probe::make(base, header);
-    done(|| format!("a head, header {header}"), answer);
+pub fn made(base: Base, header: Header) -> Head {
+    let (report, head) = probe::make(base, header);
+    done(|| format!("a head, header {header}"), base, header, report);
     head
 }
 
@@ -76,23 +78,28 @@ fn split(peers: &Peers, random: &mut Random, context: &Context, at: usize) {
         tag.copy_from_slice(&sealed[..TAG_LEN]);
     }
     for tag in [None, Some(tag)] {
-        let [mut undivided, mut from_head] = [State::ENDED; 2];
-        done(what, probe::begin(key, context.header(), tag.as_ref().map(|tag| &tag[..]), &mut undivided));
-        done(what, probe::begin(Base::Head(&head), rest, tag.as_ref().map(|tag| &tag[..]), &mut from_head));
+        let begun = |base, header| {
+            let mut state = State::ENDED;
+            let report = probe::begin(base, header, tag.as_ref().map(|tag| &tag[..]), &mut state);
+            done(what, base, header, report);
+            state
+        };
+        let (undivided, from_head) = (begun(key, context.header()), begun(Base::Head(&head), rest));
         from_head.check(|| format!("{}: beside the undivided list", what()), &undivided);
         from_head.check(what, &all.start(tag));
     }
 }
 
-/// A record by pieces from a head: sealed, opened, and refused where it is damaged.
-fn record(random: &mut Random, head: &Head, rest: Header, plain: &[u8], sealed: &[u8], what: impl Fn() -> String) {
+/// A record by pieces from a head: sealed, opened, and refused where it is damaged, each with the work of the rest alone.
+pub fn record(random: &mut Random, head: &Head, rest: Header, plain: &[u8], sealed: &[u8], what: impl Fn() -> String) {
     let (piece, n) = (random.pick(&PIECE_LENS), plain.len());
     let adds = pieces(Kind::Add, plain, piece);
     let writes = pieces(Kind::Write, plain, piece);
     let calls = [&adds[..], &[(Kind::Turn, &[])], &writes, &[(Kind::Close, &[])]].concat();
+    let work = work::strings(rest.lens) + work::plain(n);
     let mut output = Lent::new(sealed.len() + 3);
     let last = run(head, rest, None, &calls, output.slice());
-    check::holds(|| format!("{}: sealing by pieces of {piece}: {last:?}", what()), last == (0, 0));
+    check::holds(|| format!("{}: sealing by pieces of {piece}: {last:?}", what()), last == ((0, 0), work));
     output.check(|part| format!("{}: sealed by pieces of {piece}: {part}", what()), sealed);
 
     let mut damaged = sealed.to_vec();
@@ -101,8 +108,8 @@ fn record(random: &mut Random, head: &Head, rest: Header, plain: &[u8], sealed: 
         let (tag, text) = sealed.split_at(TAG_LEN);
         let calls = [&pieces(Kind::Feed, text, piece)[..], &[(Kind::Finish, &[])]].concat();
         let mut output = Lent::new(n + 3);
-        let last = run(head, rest, Some(tag), &calls, output.slice());
-        check::holds(|| format!("{}: opening by pieces of {piece}: {last:?}, not {answer:?}", what()), last == answer);
+        let (last, want) = (run(head, rest, Some(tag), &calls, output.slice()), (answer, work));
+        check::holds(|| format!("{}: opening by pieces of {piece}: {last:?}, not {want:?}", what()), last == want);
         output.check(|part| format!("{}: opened by pieces of {piece}: {part}", what()), front);
     }
 }
@@ -112,23 +119,25 @@ fn pieces(kind: Kind, text: &[u8], len: usize) -> Vec<(Kind, &[u8])> {
     text.chunks(len).map(|piece| (kind, piece)).collect()
 }
 
-/// Calls after a begin from a head: the last answer, or the first that is no success.
-fn run(head: &Head, rest: Header, tag: Option<&[u8]>, calls: &[(Kind, &[u8])], output: &mut [u8]) -> Answer {
+/// Calls after a begin from a head: the last answer, or the first that is no success; and the work of all.
+fn run(head: &Head, rest: Header, tag: Option<&[u8]>, calls: &[(Kind, &[u8])], output: &mut [u8]) -> (Answer, u64) {
     let mut state = State::ENDED;
-    let mut answer = probe::begin(Base::Head(head), rest, tag, &mut state);
+    let (mut number, mut length, mut work) = probe::begin(Base::Head(head), rest, tag, &mut state);
     let mut written = 0;
     for &(kind, piece) in calls {
-        if answer.0 != 0 {
+        if number != 0 {
             break;
         }
         let call = Call { kind, piece: piece.to_vec() };
-        answer = probe::step(&mut state, &call, &mut output[written..]);
+        let more;
+        (number, length, more) = probe::step(&mut state, &call, &mut output[written..]);
+        work += more;
         // Tag and ciphertext stand one behind the other. The opener's calls have their one output from its first byte on.
         if matches!(kind, Kind::Turn | Kind::Write) {
-            written += answer.1 as usize;
+            written += length as usize;
         }
     }
-    answer
+    ((number, length), work)
 }
 
 /// The fields of a head that 9 does not judge.

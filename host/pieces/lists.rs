@@ -1,6 +1,6 @@
 //! Lists of calls after any begin, from a key or from a head of the first header strings, each made from one seed: any call
-//! in any stage, pieces at the edges of blocks and of the limit, outputs long enough or not. Answers, output bytes and states
-//! are held against the model after every call.
+//! in any stage, pieces at the edges of blocks and of the limit, outputs long enough or not. Answers, work, output bytes and
+//! states are held against the model after every call.
 
 use crate::call::{Call, Kind};
 use crate::fields::Fields;
@@ -14,8 +14,9 @@ use shared::context::{Context, Peers};
 use shared::lent::Lent;
 use shared::library::{KEY_LENS, LIMIT, TAG_LEN};
 use shared::mac::Block;
-use shared::probe::Answer;
+use shared::probe::Report;
 use shared::random::Random;
+use shared::work;
 use std::collections::{BTreeMap, BTreeSet};
 
 const LISTS: u64 = 50_000;
@@ -36,10 +37,10 @@ const AT_LIMIT: [(Kind, u64); 9] = [
 /// Lists of many seeds, which bring every answer of every call.
 pub fn run(pieces: &mut Pieces) {
     let mut tally = Tally::new();
-    let mut begins = BTreeSet::new();
+    let mut forms = BTreeSet::new();
     let seeds = (0..LISTS).map(|i| pieces.seed.wrapping_add(i));
     for seed in seeds.clone() {
-        begins.insert(run_list(pieces, seed, false, &mut tally));
+        forms.insert(run_list(pieces, seed, false, &mut tally));
     }
     let calls: u64 = tally.values().sum();
     println!("pieces:     {LISTS} lists of seeds {} to {}, {calls} calls", pieces.seed, seeds.last().unwrap());
@@ -49,7 +50,10 @@ pub fn run(pieces: &mut Pieces) {
             check::holds(|| format!("no list has {kind:?} with answer {number}"), seen);
         }
     }
-    check::holds(|| format!("sealers and openers, from keys and from heads: lists have {begins:?}"), begins.len() == 4);
+    check::holds(
+        || format!("sealers and openers, from keys and from heads, to stage 0 and not: lists have {forms:?}"),
+        forms.len() == 8,
+    );
     for (kind, number) in AT_LIMIT {
         let seen = tally.contains_key(&(kind, number, true));
         check::holds(|| format!("no list has {kind:?} with answer {number} at the limit"), seen);
@@ -110,16 +114,22 @@ impl Start {
         Start { context, split, tag: Some(tag), text }
     }
 
-    /// Begins, with a head of the first strings where the list is split.
-    fn begin(&self, state: &mut State) -> Answer {
+    /// Begins, with a head of the first strings where the list is split: the report, and the head's work.
+    fn begin(&self, state: &mut State) -> (Report, u64) {
         let (key, header) = (Base::Key(&self.context.key), self.context.header());
         let tag = self.tag.as_ref().map(|tag| &tag[..]);
-        let Some(split) = self.split else { return probe::begin(key, header, tag, state) };
+        let Some(split) = self.split else { return (probe::begin(key, header, tag, state), 0) };
         let [first, rest] = header.split(split);
         match probe::make(key, first) {
-            ((0, 0), head) => probe::begin(Base::Head(&head), rest, tag, state),
-            (refused, _) => refused,
+            ((0, 0, work), head) => (probe::begin(Base::Head(&head), rest, tag, state), work),
+            (refused, _) => (refused, 0),
         }
+    }
+
+    /// The work of the head, where there is one, and of begin.
+    fn works(&self) -> [u64; 2] {
+        let [first, rest] = self.context.header().split(self.split.unwrap_or(0)).map(|header| work::strings(header.lens));
+        if self.split.is_some() { [work::KEY + first, rest] } else { [0, work::KEY + rest] }
     }
 }
 
@@ -142,17 +152,19 @@ struct List<'a> {
     other_writes: bool,
     /// What turn and the writes gave.
     gave: Vec<u8>,
+    /// The work of begin and of all calls.
+    work: u64,
     calls: usize,
     /// Whether each call is printed.
     talks: bool,
 }
 
-/// Runs the list of a seed. Says whether its begin was an opener's, and whether it was from a head.
-fn run_list(pieces: &Pieces, seed: u64, talks: bool, tally: &mut Tally) -> (bool, bool) {
+/// Runs the list of a seed. Says whether its begin was an opener's, whether from a head, and whether it came to stage 0.
+fn run_list(pieces: &Pieces, seed: u64, talks: bool, tally: &mut Tally) -> [bool; 3] {
     let mut random = Random(seed);
     let start = Start::random(&mut random, &pieces.peers);
     let mut state = State([0xa5; LEN]);
-    let answer = start.begin(&mut state);
+    let (begun, head_work) = start.begin(&mut state);
 
     let len = start.text.len();
     let one_len = match random.below(8) {
@@ -174,11 +186,14 @@ fn run_list(pieces: &Pieces, seed: u64, talks: bool, tally: &mut Tally) -> (bool
         one,
         other_writes: random.once_in(4),
         gave: vec![],
+        work: begun.2,
         calls: 0,
         talks,
         random,
     };
-    check::holds(|| format!("{}, begin: expected (0, 0), got {answer:?}", list.name()), answer == (0, 0));
+    let works = start.works();
+    let what = || format!("{}, begin: expected (0, 0) and works {works:?}, got {begun:?} after {head_work}", list.name());
+    check::holds(what, begun == (0, 0, works[1]) && head_work == works[0]);
     list.state.check(|| format!("{}, begin", list.name()), &list.fields.state(&list.model));
     let most = 1 + list.random.below(40);
     while list.calls < most && (list.model.stage != 0 || !list.random.once_in(3)) {
@@ -186,7 +201,7 @@ fn run_list(pieces: &Pieces, seed: u64, talks: bool, tally: &mut Tally) -> (bool
         *tally.entry((kind, number, list.model.a.len() == LIMIT)).or_default() += 1;
     }
     list.end();
-    (start.tag.is_some(), start.split.is_some())
+    [start.tag.is_some(), start.split.is_some(), list.model.stage == 0]
 }
 
 impl List<'_> {
@@ -266,7 +281,7 @@ impl List<'_> {
         if self.talks {
             println!("{}: {got:?}", what());
         }
-        check::holds(|| format!("{}: expected number and length {want:?}, got {got:?}", what()), got == want);
+        check::holds(|| format!("{}: expected number, length and work {want:?}, got {got:?}", what()), got == want);
         output.check_same(|part| format!("{}: output, {part}", what()), &wanted);
         self.check_state(what, kind, want.0, &before);
         if want.0 == 0 && matches!(kind, Kind::Turn | Kind::Write) {
@@ -275,6 +290,7 @@ impl List<'_> {
         if keeps {
             self.one = Some((output, wanted));
         }
+        self.work += got.2;
         (kind, want.0)
     }
 
@@ -285,16 +301,18 @@ impl List<'_> {
         }
         self.state.check(&what, &self.fields.state(&self.model));
         let own: &[Field] = match kind {
-            Kind::Add | Kind::Feed => &[Field::Chain, Field::Total, Field::TailLen, Field::Tail],
+            Kind::Add => &[Field::Chain, Field::Total, Field::TailLen, Field::Tail],
             Kind::Turn => &[Field::Stage, Field::V],
-            Kind::Write => &[Field::Written],
+            Kind::Write => &[Field::Kept, Field::Written],
+            Kind::Feed => &[Field::Chain, Field::Kept, Field::Total, Field::TailLen, Field::Tail],
             Kind::Close | Kind::Finish => &Field::ALL,
         };
         let changed = self.state.changed(before);
         check::holds(|| format!("{}: changed {changed:?}", what()), changed.iter().all(|field| own.contains(field)));
     }
 
-    /// The list's end: the state is that of the same bytes in one piece, and tag and writes are the first bytes of sealing.
+    /// The list's end: the state is that of the same bytes in one piece, tag and writes are the first bytes of sealing, and
+    /// begin and all calls to stage 0 together took the whole call's work less the head's.
     fn end(&self) {
         let what = |does: &str| format!("{}, after {} calls: {does}", self.name(), self.calls);
         let one_piece = || what("the same bytes in one piece");
@@ -302,6 +320,10 @@ impl List<'_> {
         if !self.gave.is_empty() && self.model.a.starts_with(&self.model.w) {
             let sealed = self.pieces.peers.seal(&self.start.context, &self.model.a);
             check::bytes(|| what("tag and writes beside sealing"), &sealed[..TAG_LEN + self.model.w.len()], &self.gave);
+        }
+        if self.model.stage == 0 {
+            let want = work::whole(&self.start.context.lens, self.model.a.len()) - self.start.works()[0];
+            check::holds(|| what(&format!("expected a work of {want} in all, got {}", self.work)), self.work == want);
         }
     }
 

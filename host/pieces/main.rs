@@ -1,5 +1,6 @@
 //! libprobe.a against models that have their tags, openings and AES from OpenSSL's libcrypto and libgcrypt: whole calls
-//! with any header list, prepared heads, and piecewise sealing and opening. Its last line is `pieces: N checks passed`.
+//! with any header list, prepared heads, and piecewise sealing and opening, and the work of each call. Its last line is
+//! `pieces: N checks passed`.
 //! With a seed as its argument it runs the one list of calls that this seed makes, and prints each call.
 
 mod aes;
@@ -13,9 +14,11 @@ mod heads;
 mod lists;
 mod model;
 mod probe;
+mod reference;
 mod spoiled;
 mod state;
 mod steps;
+mod works;
 
 use shared::context::Peers;
 use shared::library::LIMIT;
@@ -50,6 +53,7 @@ fn main() {
         ("every split of a list into head and rest", heads::splits),
         ("heads with a field spoiled", heads::spoiled),
         ("a wall unit's records from one head", heads::wall_unit),
+        ("work counted by the cipher's calls", works::run),
         ("every call on good and spoiled states", spoiled::run),
         ("lists of calls beside the model", lists::run),
     ]);

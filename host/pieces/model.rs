@@ -3,10 +3,12 @@
 
 use crate::call::{Call, Kind};
 use crate::counter;
+use crate::state::tail_len;
 use shared::context::{Context, Peers};
 use shared::library::{LIMIT, TAG_LEN};
 use shared::mac::Block;
-use shared::probe::Answer;
+use shared::probe::{Answer, Report};
+use shared::work;
 
 pub struct Model<'a> {
     peers: &'a Peers,
@@ -38,8 +40,36 @@ impl<'a> Model<'a> {
         if self.stage == 3 { self.xored(&self.a, 0) } else { self.a.clone() }
     }
 
+    /// The key stream's block that is begun and not used up, or zeros.
+    pub fn kept(&self) -> Block {
+        let place = match self.stage {
+            2 => self.w.len(),
+            3 => self.a.len(),
+            _ => 0,
+        };
+        match place % 16 {
+            0 => [0; 16],
+            used => self.xored(&[0; 16], place - used).try_into().unwrap(),
+        }
+    }
+
+    /// A call's report, its work from lengths alone. What it writes goes to `output`.
+    pub fn call(&mut self, call: &Call, output: &mut [u8]) -> Report {
+        let (a, w) = (self.a.len(), self.w.len());
+        let (number, length) = self.answer(call, output);
+        let more = |blocks: fn(usize) -> u64, from, to| blocks(to) - blocks(from);
+        let work = match (number, call.kind) {
+            (0, Kind::Add) => more(chained, a, self.a.len()),
+            (0, Kind::Write) => more(work::key_stream, w, self.w.len()),
+            (0, Kind::Feed) => more(chained, a, self.a.len()) + more(work::key_stream, a, self.a.len()),
+            (0, Kind::Turn) | (0 | 8, Kind::Finish) => work::string(a) - chained(a),
+            _ => 0,
+        };
+        (number, length, work)
+    }
+
     /// A call's answer. What it writes goes to `output`.
-    pub fn call(&mut self, call: &Call, output: &mut [u8]) -> Answer {
+    fn answer(&mut self, call: &Call, output: &mut [u8]) -> Answer {
         let (piece, n) = (&call.piece, call.piece.len());
         let total = self.a.len();
         if self.stage != call.kind.wants() {
@@ -93,4 +123,9 @@ impl<'a> Model<'a> {
             }
         }
     }
+}
+
+/// How many blocks of a plaintext stand before its tail.
+fn chained(total: usize) -> u64 {
+    ((total - tail_len(total as u64)) / 16) as u64
 }

@@ -20,8 +20,10 @@ pub const ANY_WIDTHS: [u64; 20] = [
     0, 1, 8, 15, 16, 17, 23, 24, 25, 31, 32, 33, 48, 64, 255, 256 + 16, (1 << 32) + 16, (1 << 32) + 24, (1 << 63) + 32,
     u64::MAX,
 ];
-/// The fields that 9 does not judge; of the tail it judges the unused bytes.
+/// The fields that 9 does not judge.
 const USED_AS_THEY_ARE: [Field; 6] = [Field::MacKeys, Field::CtrKeys, Field::L, Field::D, Field::Chain, Field::V];
+/// Those that it judges in part: the tail's unused bytes, and the kept block where no block of the key stream is begun.
+const JUDGED_IN_PART: [Field; 2] = [Field::Tail, Field::Kept];
 
 /// What the calls were seen to do.
 #[derive(Default)]
@@ -69,8 +71,8 @@ fn good_states(peers: &Peers, random: &mut Random, context: &Context, total: usi
     let states = |tag, calls| {
         let what = || format!("a good state of {total} bytes");
         let mut begun = State::ENDED;
-        let answer = probe::begin(Base::Key(&context.key), context.header(), tag, &mut begun);
-        check::holds(|| format!("{}: begin: expected (0, 0), got {answer:?}", what()), answer == (0, 0));
+        let report = probe::begin(Base::Key(&context.key), context.header(), tag, &mut begun);
+        check::holds(|| format!("{}: begin: expected number 0, got {report:?}", what()), report.0 == 0);
         probe::states(&begun, calls, what)
     };
     [states(None, &sealer), states(Some(tag), &opener)].concat()
@@ -119,12 +121,14 @@ fn spoiled_states(random: &mut Random, good: &State) -> Vec<(Option<Field>, Stat
     }
 
     let mut unjudged = vec![];
-    for at in 0..31 {
-        let mut state = good.clone();
-        state.get_mut(Field::Tail)[at] ^= 1 + random.below(255) as u8;
-        unjudged.push((Field::Tail, state));
+    for field in JUDGED_IN_PART {
+        for at in 0..good.get(field).len() {
+            let mut state = good.clone();
+            state.get_mut(field)[at] ^= 1 + random.below(255) as u8;
+            unjudged.push((field, state));
+        }
     }
-    unjudged.extend(changed(random, good, &USED_AS_THEY_ARE));
+    unjudged.extend(changed(random, good, &[&USED_AS_THEY_ARE[..], &[Field::Kept]].concat()));
     for (field, state) in unjudged {
         // What finish accepts with that field.
         if good.number(Field::Stage) == 3 {
@@ -191,12 +195,13 @@ fn run_one(state: &State, changed: Option<Field>, call: &Call, len: usize, seen:
         let changed = changed.map_or("nothing".to_string(), |field| format!("{field:?}"));
         let [stage, width, total, written, tail_len] =
             [Field::Stage, Field::Width, Field::Total, Field::Written, Field::TailLen].map(|field| state.number(field));
+        let kept = check::hex(state.get(Field::Kept));
         format!(
-            "state with stage {stage}, width {width}, total {total}, written {written}, tail length {tail_len} \
-             (changed: {changed}): {call}, output of {len} bytes, due {due:?}"
+            "state with stage {stage}, width {width}, kept block {kept}, total {total}, written {written}, \
+             tail length {tail_len} (changed: {changed}): {call}, output of {len} bytes, due {due:?}"
         )
     };
-    check::holds(|| format!("{}: expected number and length {want:?}, got {got:?}", what()), got == want);
+    check::holds(|| format!("{}: expected number, length and work {want:?}, got {got:?}", what()), got == want);
     output.check_same(|part| format!("{}: output, {part}", what()), &wanted);
     handed_back.check(what, &expected);
 
@@ -212,7 +217,7 @@ fn run_one(state: &State, changed: Option<Field>, call: &Call, len: usize, seen:
 
 impl Seen {
     /// Every pair of refusals was due at once, every reason for 9 alone, and every call went on with each field changed
-    /// that 9 does not judge.
+    /// that 9 does not judge; with a kept block changed, every call that wants a stage with a key stream.
     fn check(&self) {
         for kind in Kind::ALL {
             self.together[&kind].check(&format!("{kind:?}"), kind.refusals(), |_, _| false);
@@ -223,9 +228,12 @@ impl Seen {
                     self.reasons.contains(&(kind, reason)) == can_be,
                 );
             }
-            for field in USED_AS_THEY_ARE.into_iter().chain([Field::Tail]) {
-                let accepted = self.accepted.contains(&(kind, Some(field)));
-                check::holds(|| format!("{kind:?}: no state with {field:?} changed was accepted"), accepted);
+            for field in USED_AS_THEY_ARE.into_iter().chain(JUDGED_IN_PART) {
+                let can_be = field != Field::Kept || kind.wants() != 1;
+                check::holds(
+                    || format!("{kind:?}: states with {field:?} changed were accepted: {}", !can_be),
+                    self.accepted.contains(&(kind, Some(field))) == can_be,
+                );
             }
         }
     }

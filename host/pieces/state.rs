@@ -5,7 +5,7 @@ use shared::mac::Block;
 use std::ops::Range;
 use Field::*;
 
-pub const LEN: usize = 608;
+pub const LEN: usize = 624;
 
 #[derive(Clone, Copy, PartialEq, Eq, PartialOrd, Ord, Debug)]
 pub enum Field {
@@ -17,6 +17,7 @@ pub enum Field {
     D,
     Chain,
     V,
+    Kept,
     Total,
     Written,
     TailLen,
@@ -24,7 +25,7 @@ pub enum Field {
 }
 
 impl Field {
-    pub const ALL: [Field; 12] = [Stage, Width, MacKeys, CtrKeys, L, D, Chain, V, Total, Written, TailLen, Tail];
+    pub const ALL: [Field; 13] = [Stage, Width, MacKeys, CtrKeys, L, D, Chain, V, Kept, Total, Written, TailLen, Tail];
 
     /// Its place in the bytes, as in crates/probe/src/state.rt.
     fn place(self) -> Range<usize> {
@@ -37,10 +38,11 @@ impl Field {
             D => 505..521,
             Chain => 521..537,
             V => 537..553,
-            Total => 553..561,
-            Written => 561..569,
-            TailLen => 569..577,
-            Tail => 577..LEN,
+            Kept => 553..569,
+            Total => 569..577,
+            Written => 577..585,
+            TailLen => 585..593,
+            Tail => 593..LEN,
         }
     }
 }
@@ -87,6 +89,15 @@ impl State {
         let tail = self.get_mut(Tail);
         tail.fill(0);
         tail[..used.len()].copy_from_slice(used);
+    }
+
+    /// How many bytes of the key stream are used: those written in stage 2, those fed in stage 3.
+    pub fn stream_place(&self) -> usize {
+        match self.number(Stage) {
+            2 => self.number(Written) as usize,
+            3 => self.number(Total) as usize,
+            _ => 0,
+        }
     }
 
     /// The fields that differ.

@@ -1,13 +1,15 @@
 //! What each call makes of any state that it is given, by document 01's words on the calls and its table of answers. What
-//! 9 does not judge is used as it is: libcrypto's cipher takes a state's round keys as they stand.
+//! 9 does not judge is used as it is: libcrypto's cipher takes a state's round keys as they stand, and a kept block is not
+//! made again. A call's work is the count of what went through that cipher.
 
-use crate::aes::Cipher;
+use crate::aes::{self, Cipher};
 use crate::call::{Call, Kind};
 use crate::counter;
-use shared::library::{LIMIT, TAG_LEN};
+use crate::reference::Mac;
 use crate::state::{tail_len, Field, Field::*, State};
-use shared::mac::{double, last_block, pad, subkey, xor, Block};
-use shared::probe::Answer;
+use shared::library::{LIMIT, TAG_LEN};
+use shared::mac::Block;
+use shared::probe::{Answer, Report};
 
 /// The key widths.
 pub const WIDTHS: [u64; 3] = [16, 24, 32];
@@ -20,12 +22,13 @@ pub struct Case<'a> {
 }
 
 /// The reasons for refusal 9.
-pub const REASONS: [(&str, fn(&Case) -> bool); 7] = [
+pub const REASONS: [(&str, fn(&Case) -> bool); 8] = [
     ("stage", |c| c.state.number(Stage) != c.call.kind.wants()),
     ("key width", |c| !WIDTHS.contains(&c.state.number(Width))),
     ("total", |c| c.total() > LIMIT as u64),
     ("written", |c| c.written() > if c.state.number(Stage) == 2 { c.total() } else { 0 }),
     ("tail length", |c| c.state.number(TailLen) != tail_len(c.total()) as u64),
+    ("kept block", |c| c.state.stream_place() % 16 == 0 && c.state.get(Kept).iter().any(|&byte| byte != 0)),
     ("unused tail byte", |c| c.state.get(Tail)[tail_len(c.total())..].iter().any(|&byte| byte != 0)),
     ("close before all is written", |c| c.call.kind == Kind::Close && c.written() < c.total()),
 ];
@@ -65,36 +68,33 @@ fn cipher(state: &State, keys: Field) -> Cipher {
     Cipher::new(state.number(Width), state.get(keys))
 }
 
-/// CMAC of a text with the state's L, where the chain is over what came before the text.
-fn cmac(state: &State, chain: Block, text: &[u8]) -> Block {
-    let cipher = cipher(state, MacKeys);
-    let (front, last) = text.split_at(last_block(text.len()));
-    let chain = front.chunks(16).fold(chain, |chain, block| cipher.block(xor(&chain, block)));
-    cipher.block(xor(&xor(&pad(last), &subkey(state.block(L), last)), &chain))
+/// CMAC's cipher with the state's L.
+fn mac(state: &State) -> Mac {
+    Mac { cipher: cipher(state, MacKeys), l: state.block(L) }
 }
 
 /// D over header strings more.
 pub fn header_result(state: &State, strings: &[&[u8]]) -> Block {
-    strings.iter().fold(state.block(D), |d, string| xor(&double(d), &cmac(state, [0; 16], string)))
+    mac(state).header_result(state.block(D), strings)
 }
 
-/// The tag of all that was added or fed: CMAC goes on from the chain over the tail's bytes with D at their end.
+/// The tag of all that was added or fed.
 pub fn tag(state: &State) -> Block {
-    let d = state.block(D);
     let tail = &state.get(Tail)[..tail_len(state.number(Total))];
-    let end = match tail.len().checked_sub(16) {
-        None => xor(&double(d), &pad(tail)).to_vec(),
-        Some(at) => [&tail[..at], &xor(&tail[at..], &d)].concat(),
-    };
-    cmac(state, state.block(Chain), &end)
+    mac(state).tag(state.block(D), state.block(Chain), tail)
 }
 
-/// A piece xored with the state's key stream.
-fn xored(state: &State, piece: &[u8], place: u64) -> Vec<u8> {
-    let cipher = cipher(state, CtrKeys);
-    counter::xored(piece, state.block(V), place as usize, |blocks| {
-        blocks.chunks(16).flat_map(|block| cipher.block(block.try_into().unwrap())).collect()
-    })
+/// A piece xored with the state's key stream: where a block is begun, with what is left of the kept one first, whatever it
+/// holds, and then with new blocks. The last block is kept, or zeros where it is used up.
+fn xored(state: &mut State, piece: &[u8]) -> Vec<u8> {
+    let place = state.stream_place();
+    let end = place + piece.len();
+    let new = cipher(state, CtrKeys).blocks(&counter::blocks(state.block(V), place.div_ceil(16)..end.div_ceil(16)));
+    let begun = if place % 16 == 0 { &[] } else { state.get(Kept) };
+    let at_hand = [begun, &new].concat();
+    let kept = if end % 16 == 0 { &[0; 16] } else { &at_hand[at_hand.len() - 16..] };
+    state.set(Kept, kept);
+    piece.iter().zip(&at_hand[place % 16..]).map(|(a, b)| a ^ b).collect()
 }
 
 /// Takes plaintext in: blocks that leave the tail are chained.
@@ -103,22 +103,31 @@ fn absorb(state: &mut State, piece: &[u8]) {
     let total = old + piece.len() as u64;
     let text = [&state.get(Tail)[..tail_len(old)], piece].concat();
     let (passed, tail) = text.split_at(text.len() - tail_len(total));
-    let cipher = cipher(state, MacKeys);
-    let chain = passed.chunks(16).fold(state.block(Chain), |chain, block| cipher.block(xor(&chain, block)));
+    let chain = mac(state).chain(state.block(Chain), passed);
     state.set(Chain, &chain);
     state.set_number(Total, total);
     state.set_tail(tail);
 }
 
-/// The answer to a call on which `first` is the first refusal that is due. The state becomes the one that is handed back,
+/// The report on a call on which `first` is the first refusal that is due. The state becomes the one that is handed back,
 /// and what is written goes to `output`.
-pub fn step(state: &mut State, call: &Call, first: Option<u64>, output: &mut [u8]) -> Answer {
+pub fn step(state: &mut State, call: &Call, first: Option<u64>, output: &mut [u8]) -> Report {
+    let ((number, length), work) = aes::counted(|| answer(state, call, first, output));
+    (number, length, work)
+}
+
+fn answer(state: &mut State, call: &Call, first: Option<u64>, output: &mut [u8]) -> Answer {
     let (piece, n) = (&call.piece, call.piece.len());
     let (total, written) = (state.number(Total), state.number(Written));
     match (first, call.kind) {
-        (Some(8), _) => {
-            output[..total as usize].fill(0);
+        // Either verdict takes the tag.
+        (Some(8), _) | (None, Kind::Finish) => {
+            let genuine = tag(state) == state.block(V);
             *state = State::ENDED;
+            if genuine {
+                return (0, total);
+            }
+            output[..total as usize].fill(0);
             (8, 0)
         }
         (Some(number), _) => (number, 0),
@@ -134,12 +143,12 @@ pub fn step(state: &mut State, call: &Call, first: Option<u64>, output: &mut [u8
             (0, TAG_LEN as u64)
         }
         (None, Kind::Write) => {
-            output[..n].copy_from_slice(&xored(state, piece, written));
+            output[..n].copy_from_slice(&xored(state, piece));
             state.set_number(Written, written + n as u64);
             (0, n as u64)
         }
         (None, Kind::Feed) => {
-            let plain = xored(state, piece, total);
+            let plain = xored(state, piece);
             output[total as usize..][..n].copy_from_slice(&plain);
             absorb(state, &plain);
             (0, n as u64)
@@ -147,10 +156,6 @@ pub fn step(state: &mut State, call: &Call, first: Option<u64>, output: &mut [u8
         (None, Kind::Close) => {
             *state = State::ENDED;
             (0, 0)
-        }
-        (None, Kind::Finish) => {
-            *state = State::ENDED;
-            (0, total)
         }
     }
 }

@@ -14,3 +14,4 @@ pub mod random;
 pub mod ring;
 pub mod table;
 pub mod whole;
+pub mod work;

@@ -13,6 +13,7 @@ unsafe extern "C" {
     fn kinphlor_open_ring(key_len: usize, ring: *const u8, ring_len: usize, header: *const u8, header_len: usize, ad_len: u32,
         nonce_len: u32, input: *const u8, input_len: usize, output: *mut u8, output_len: usize, scratch: *mut u8,
         scratch_len: usize) -> u64;
+    fn kinphlor_planned_work(ad_len: u32, nonce_len: u32, n: usize) -> u64;
 }
 
 /// The longest plaintext.
@@ -89,6 +90,10 @@ fn open_ring(key_len: usize, args: &Args, output: &mut [u8], scratch: &mut [u8])
             output.as_mut_ptr(), output.len(), scratch.as_mut_ptr(), scratch.len(),
         )
     })
+}
+
+pub fn planned_work(ad_len: u32, nonce_len: u32, n: usize) -> u64 {
+    unsafe { kinphlor_planned_work(ad_len, nonce_len, n) }
 }
 
 fn answer(result: u64) -> Answer {

@@ -7,12 +7,15 @@ use crate::whole::{Given, Header};
 #[rustfmt::skip]
 unsafe extern "C" {
     fn probe_seal(key: *const u8, key_len: usize, header: *const u8, header_len: usize, lens: *const u32, lens_len: usize,
-        input: *const u8, input_len: usize, output: *mut u8, output_len: usize, scratch: *mut u8, scratch_len: usize) -> u64;
+        input: *const u8, input_len: usize, output: *mut u8, output_len: usize, scratch: *mut u8, scratch_len: usize,
+        work: *mut u8, work_len: usize) -> u64;
     fn probe_open(key: *const u8, key_len: usize, header: *const u8, header_len: usize, lens: *const u32, lens_len: usize,
-        input: *const u8, input_len: usize, output: *mut u8, output_len: usize, scratch: *mut u8, scratch_len: usize) -> u64;
+        input: *const u8, input_len: usize, output: *mut u8, output_len: usize, scratch: *mut u8, scratch_len: usize,
+        work: *mut u8, work_len: usize) -> u64;
     fn probe_open_ring(key_len: usize, ring: *const u8, ring_len: usize, header: *const u8, header_len: usize,
         lens: *const u32, lens_len: usize, input: *const u8, input_len: usize, output: *mut u8, output_len: usize,
-        scratch: *mut u8, scratch_len: usize, slot: *mut u8, slot_len: usize) -> u64;
+        scratch: *mut u8, scratch_len: usize, slot: *mut u8, slot_len: usize, work: *mut u8, work_len: usize) -> u64;
+    fn probe_planned_work(lens: *const u32, lens_len: usize, n: usize) -> u64;
     fn probe_seal_pieces(key: *const u8, key_len: usize, header: *const u8, header_len: usize, lens: *const u32,
         lens_len: usize, input: *const u8, input_len: usize, n: usize, output: *mut u8, output_len: usize) -> u64;
     fn probe_open_pieces(key: *const u8, key_len: usize, header: *const u8, header_len: usize, lens: *const u32,
@@ -23,44 +26,58 @@ unsafe extern "C" {
         lens_len: usize, input: *const u8, input_len: usize, n: usize, output: *mut u8, output_len: usize) -> u64;
 }
 
-/// A piecewise call's number and length.
+/// A number and a length.
 pub type Answer = (u64, u64);
 
-pub fn answer(result: u64) -> Answer {
+/// A number, a length, and the call's work.
+pub type Report = (u64, u64, u64);
+
+fn answer(result: u64) -> Answer {
     (result >> 32, result & 0xffff_ffff)
+}
+
+/// A call that hands its work back through a buffer, which it is lent with the buffer's length.
+pub fn report(call: impl FnOnce(*mut u8, usize) -> u64) -> Report {
+    let mut work = [0xa5; 8];
+    let (number, length) = answer(call(work.as_mut_ptr(), work.len()));
+    (number, length, u64::from_le_bytes(work))
 }
 
 // In all that follows slices are valid for their lengths, never null, and those that are written overlap no other.
 
-/// A whole call.
-pub fn whole(function: Function, given: &Given, output: &mut [u8], scratch: &mut [u8]) -> library::Answer {
+/// A whole call, with its work.
+pub fn whole(function: Function, given: &Given, output: &mut [u8], scratch: &mut [u8]) -> (library::Answer, Option<u64>) {
     let raw = match function {
         Function::Seal => probe_seal,
         Function::Open => probe_open,
         Function::OpenRing(key_len) => return open_ring(key_len, given, output, scratch),
     };
     let Given { key, header: Header { bytes, lens }, input } = *given;
-    let (number, length) = answer(unsafe {
+    let (number, length, work) = report(|work, work_len| unsafe {
         raw(
             key.as_ptr(), key.len(), bytes.as_ptr(), bytes.len(), lens.as_ptr(), lens.len(), input.as_ptr(), input.len(),
-            output.as_mut_ptr(), output.len(), scratch.as_mut_ptr(), scratch.len(),
+            output.as_mut_ptr(), output.len(), scratch.as_mut_ptr(), scratch.len(), work, work_len,
         )
     });
-    (number, 0, length)
+    ((number, 0, length), Some(work))
 }
 
 /// The slot comes through a byte of its own.
-fn open_ring(key_len: usize, given: &Given, output: &mut [u8], scratch: &mut [u8]) -> library::Answer {
+fn open_ring(key_len: usize, given: &Given, output: &mut [u8], scratch: &mut [u8]) -> (library::Answer, Option<u64>) {
     let Given { key: ring, header: Header { bytes, lens }, input } = *given;
     let mut slot = [0xff];
-    let (number, length) = answer(unsafe {
+    let (number, length, work) = report(|work, work_len| unsafe {
         probe_open_ring(
             key_len, ring.as_ptr(), ring.len(), bytes.as_ptr(), bytes.len(), lens.as_ptr(), lens.len(),
             input.as_ptr(), input.len(), output.as_mut_ptr(), output.len(), scratch.as_mut_ptr(), scratch.len(),
-            slot.as_mut_ptr(), slot.len(),
+            slot.as_mut_ptr(), slot.len(), work, work_len,
         )
     });
-    (number, slot[0] as u64, length)
+    ((number, slot[0] as u64, length), Some(work))
+}
+
+pub fn planned_work(lens: &[u32], n: usize) -> u64 {
+    unsafe { probe_planned_work(lens.as_ptr(), lens.len(), n) }
 }
 
 /// A call that cuts its input by a length.

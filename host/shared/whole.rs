@@ -4,6 +4,7 @@ use crate::check;
 use crate::lent::Lent;
 use crate::library::{Answer, Function};
 use crate::ring;
+use crate::work;
 use std::fmt;
 use Function::{Open, OpenRing};
 
@@ -50,8 +51,8 @@ pub struct Given<'a> {
     pub input: &'a [u8],
 }
 
-/// Makes a whole call with an output and a scratch.
-pub type Maker = fn(Function, &Given, &mut [u8], &mut [u8]) -> Answer;
+/// Makes a whole call with an output and a scratch: its answer, and its work where the call tells it.
+pub type Maker = fn(Function, &Given, &mut [u8], &mut [u8]) -> (Answer, Option<u64>);
 
 /// Lengths of the memory lent for writing.
 #[derive(Clone, Copy)]
@@ -76,7 +77,7 @@ pub enum Want<'a> {
     Forged,
 }
 
-/// One call: its answer and every byte of the lent memory. Gives what is at the front of the output. What opens or is
+/// One call: its answer, its work and every byte of the lent memory. Gives what is at the front of the output. What opens or is
 /// refused under a key is so under a ring of this one key, and of it among strangers.
 pub fn run(make: Maker, function: Function, given: &Given, room: Room, want: Want) -> Vec<u8> {
     if function == Open {
@@ -98,8 +99,14 @@ fn run_once(make: Maker, function: Function, given: &Given, room: Room, want: Wa
         Want::Refused(number) => ((number, 0, 0), vec![], 0),
         Want::Forged => ((8, 0, 0), vec![0; function.plain_len(input_len)], function.scratch_need(input_len)),
     };
+    let tried = match (want, function) {
+        (Want::Refused(_), _) => 0,
+        (Want::Forged, OpenRing(key_len)) => given.key.len() / key_len,
+        _ => answer.1 as usize + 1,
+    };
+    let blocks = tried as u64 * work::whole(given.header.lens, function.plain_len(input_len));
     let (mut output, mut scratch) = (Lent::new(room.output), Lent::new(room.scratch));
-    let got = make(function, given, output.slice(), scratch.slice());
+    let (got, work) = make(function, given, output.slice(), scratch.slice());
 
     let call = || {
         format!(
@@ -108,6 +115,9 @@ fn run_once(make: Maker, function: Function, given: &Given, room: Room, want: Wa
         )
     };
     check::holds(|| format!("{}: expected number, slot and length {answer:?}, got {got:?}", call()), got == answer);
+    if let Some(work) = work {
+        check::holds(|| format!("{}: answer {got:?}: expected {blocks} blocks, got {work}", call()), work == blocks);
+    }
     output.check(|part| format!("{}: answer {got:?}, output, {part}", call()), &front);
     scratch.check(|part| format!("{}: answer {got:?}, scratch, {part}", call()), &vec![0; wiped]);
     front

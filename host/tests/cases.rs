@@ -51,11 +51,11 @@ impl Record {
     }
 }
 
-/// A call of the archive's: the header is associated data and nonce.
-fn call(function: Function, given: &Given, output: &mut [u8], scratch: &mut [u8]) -> Answer {
+/// A call of the archive's, which does not tell its work: the header is associated data and nonce.
+fn call(function: Function, given: &Given, output: &mut [u8], scratch: &mut [u8]) -> (Answer, Option<u64>) {
     let Given { key, header, input } = *given;
     let args = Args { key, header: header.bytes, ad_len: header.lens[0], nonce_len: header.lens[1], input };
-    function.call(&args, output, scratch)
+    (function.call(&args, output, scratch), None)
 }
 
 /// Rings at the archive's interface, with every header.

@@ -116,7 +116,8 @@ fn encryption(engine: &Engine, label: &[u8], key: &[u8], block: Block)
         KeyAnswer::Expanded => {
             if width <= 32 {
                 let r = aes::encrypt(engine, width, &keys, block);
-                printer::line(b"", &r);
+                let b = r.block;
+                printer::line(b"", &b);
             }
         }
     }

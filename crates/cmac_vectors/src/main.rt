@@ -80,7 +80,8 @@ const MESSAGE: [u8; 64] = [
 fn tag(engine: &Engine, width: usize, keys: &RoundKeys, k: Subkeys, label: &[u8], n: usize)
     requires { ⌜ Ready (now engine) × (width ≤ 32) × (n ≤ 64) ⌝ }
 {
-    let t = cmac::cmac_from(engine, width, keys, k, [0u8; 16], &MESSAGE[0..n]);
+    let mac = cmac::cmac_from(engine, width, keys, k, [0u8; 16], &MESSAGE[0..n]);
+    let t = mac.block;
     printer::line(label, &t);
 }
 
@@ -110,7 +111,9 @@ fn examples(engine: &Engine, label: &[u8], key: &[u8])
     let e = aes::expand(engine, key);
     let keys = e.keys;
     if width <= 32 {
-        let k = cmac::make_subkeys(cmac::zero_cipher(engine, width, &keys));
+        let zero = cmac::zero_cipher(engine, width, &keys);
+        let l = zero.block;
+        let k = cmac::make_subkeys(l);
         print_subkeys(k);
         tags(engine, width, &keys, k);
     }

@@ -1,4 +1,4 @@
-// The calls that the C interface leaves out, exported for the host tests alone: whole calls with any header list, and each piecewise call on a head or a state given as bytes.
+// The calls that the C interface leaves out, exported for the host tests alone: whole calls with any header list, and each piecewise call on a head or a state given as bytes. A call's work comes through its last buffer.
 mod fields;
 mod heads;
 mod pieces;
@@ -9,31 +9,49 @@ use head::Head;
 use head::Made;
 use siv::Answer;
 use siv::Refusal;
+use siv::Report;
 use stream::Step;
 use stream::Stream;
 
 // What a call answers where a state's buffer has not state::LEN bytes, or a head's not heads::LEN: no number of document 01's.
 const NO_BUFFER: u64 = 0xffffffff00000000;
 
-// Hands the state back through its buffer and the answer as one number.
-fn give(step: Step, bytes: &mut [u8]) -> u64 {
+// Hands a call's work back through a buffer of eight bytes, the lowest first; a buffer of another length stays as it is.
+fn give_work(blocks: usize, to: &mut [u8]) {
+    if to.len() != 8 {
+        return;
+    }
+    fields::put_number(to, 0, blocks);
+}
+
+// Hands a whole call's work back through its buffer and the answer as one number.
+fn give_report(report: Report, work: &mut [u8]) -> u64 {
+    let answer = report.answer;
+    give_work(report.work, work);
+    kinphlor::pack(answer)
+}
+
+// Hands state and work back through their buffers and the answer as one number.
+fn give(step: Step, bytes: &mut [u8], work: &mut [u8]) -> u64 {
     if bytes.len() != state::LEN {
         return NO_BUFFER;
     }
     let answer = step.answer;
     let s = step.state;
     state::store(s, bytes);
+    give_work(step.work, work);
     kinphlor::pack(answer)
 }
 
-// Hands the head back through its buffer and the answer as one number.
-fn give_head(made: Made, bytes: &mut [u8]) -> u64 {
+// Hands head and work back through their buffers and the answer as one number.
+fn give_head(made: Made, bytes: &mut [u8], work: &mut [u8]) -> u64 {
     if bytes.len() != heads::LEN {
         return NO_BUFFER;
     }
     let answer = made.answer;
     let h = made.head;
     heads::store(h, bytes);
+    give_work(made.work, work);
     kinphlor::pack(answer)
 }
 
@@ -45,8 +63,9 @@ pub extern "C" fn probe_seal(
     input: &[u8],
     output: &mut [u8],
     scratch: &mut [u8],
+    work: &mut [u8],
 ) -> u64 {
-    kinphlor::pack(siv::seal(key, header, lens, input, output, scratch))
+    give_report(siv::seal(key, header, lens, input, output, scratch), work)
 }
 
 #[no_mangle]
@@ -57,8 +76,9 @@ pub extern "C" fn probe_open(
     input: &[u8],
     output: &mut [u8],
     scratch: &mut [u8],
+    work: &mut [u8],
 ) -> u64 {
-    kinphlor::pack(siv::open(key, header, lens, input, output, scratch))
+    give_report(siv::open(key, header, lens, input, output, scratch), work)
 }
 
 // Hands a slot's number, which is one byte, back through a buffer.
@@ -79,11 +99,19 @@ pub extern "C" fn probe_open_ring(
     output: &mut [u8],
     scratch: &mut [u8],
     slot: &mut [u8],
+    work: &mut [u8],
 ) -> u64 {
     let opened = siv::open_ring(key_len, ring, header, lens, input, output, scratch);
     let answer = opened.answer;
     give_slot(opened.slot, slot);
+    give_work(opened.work, work);
     kinphlor::pack(answer)
+}
+
+// What a whole call with header strings of these lengths and n bytes of plaintext will work.
+#[no_mangle]
+pub extern "C" fn probe_planned_work(lens: &[u32], n: usize) -> u64 {
+    siv::planned_work(lens, n) as u64
 }
 
 #[no_mangle]
@@ -92,8 +120,9 @@ pub extern "C" fn probe_begin_sealer(
     header: &[u8],
     lens: &[u32],
     bytes: &mut [u8],
+    work: &mut [u8],
 ) -> u64 {
-    give(Stream::begin_sealer(key, header, lens), bytes)
+    give(Stream::begin_sealer(key, header, lens), bytes, work)
 }
 
 #[no_mangle]
@@ -103,21 +132,33 @@ pub extern "C" fn probe_begin_opener(
     lens: &[u32],
     tag: &[u8],
     bytes: &mut [u8],
+    work: &mut [u8],
 ) -> u64 {
-    give(Stream::begin_opener(key, header, lens, tag), bytes)
+    give(Stream::begin_opener(key, header, lens, tag), bytes, work)
 }
 
 #[no_mangle]
-pub extern "C" fn probe_make_head(key: &[u8], header: &[u8], lens: &[u32], head: &mut [u8]) -> u64 {
-    give_head(Head::make(key, header, lens), head)
+pub extern "C" fn probe_make_head(
+    key: &[u8],
+    header: &[u8],
+    lens: &[u32],
+    head: &mut [u8],
+    work: &mut [u8],
+) -> u64 {
+    give_head(Head::make(key, header, lens), head, work)
 }
 
 #[no_mangle]
-pub extern "C" fn probe_extend_head(head: &mut [u8], header: &[u8], lens: &[u32]) -> u64 {
+pub extern "C" fn probe_extend_head(
+    head: &mut [u8],
+    header: &[u8],
+    lens: &[u32],
+    work: &mut [u8],
+) -> u64 {
     if head.len() != heads::LEN {
         return NO_BUFFER;
     }
-    give_head(heads::load(head).extend(header, lens), head)
+    give_head(heads::load(head).extend(header, lens), head, work)
 }
 
 #[no_mangle]
@@ -126,6 +167,7 @@ pub extern "C" fn probe_begin_sealer_from(
     header: &[u8],
     lens: &[u32],
     bytes: &mut [u8],
+    work: &mut [u8],
 ) -> u64 {
     if head.len() != heads::LEN {
         return NO_BUFFER;
@@ -133,6 +175,7 @@ pub extern "C" fn probe_begin_sealer_from(
     give(
         Stream::begin_sealer_from(heads::load(head), header, lens),
         bytes,
+        work,
     )
 }
 
@@ -143,6 +186,7 @@ pub extern "C" fn probe_begin_opener_from(
     lens: &[u32],
     tag: &[u8],
     bytes: &mut [u8],
+    work: &mut [u8],
 ) -> u64 {
     if head.len() != heads::LEN {
         return NO_BUFFER;
@@ -150,55 +194,66 @@ pub extern "C" fn probe_begin_opener_from(
     give(
         Stream::begin_opener_from(heads::load(head), header, lens, tag),
         bytes,
+        work,
     )
 }
 
 #[no_mangle]
-pub extern "C" fn probe_add(bytes: &mut [u8], piece: &[u8]) -> u64 {
+pub extern "C" fn probe_add(bytes: &mut [u8], piece: &[u8], work: &mut [u8]) -> u64 {
     if bytes.len() != state::LEN {
         return NO_BUFFER;
     }
-    give(state::load(bytes).add(piece), bytes)
+    give(state::load(bytes).add(piece), bytes, work)
 }
 
 #[no_mangle]
-pub extern "C" fn probe_turn(bytes: &mut [u8], output: &mut [u8]) -> u64 {
+pub extern "C" fn probe_turn(bytes: &mut [u8], output: &mut [u8], work: &mut [u8]) -> u64 {
     if bytes.len() != state::LEN {
         return NO_BUFFER;
     }
-    give(state::load(bytes).turn(output), bytes)
+    give(state::load(bytes).turn(output), bytes, work)
 }
 
 #[no_mangle]
-pub extern "C" fn probe_write(bytes: &mut [u8], piece: &[u8], output: &mut [u8]) -> u64 {
+pub extern "C" fn probe_write(
+    bytes: &mut [u8],
+    piece: &[u8],
+    output: &mut [u8],
+    work: &mut [u8],
+) -> u64 {
     if bytes.len() != state::LEN {
         return NO_BUFFER;
     }
-    give(state::load(bytes).write(piece, output), bytes)
+    give(state::load(bytes).write(piece, output), bytes, work)
 }
 
 #[no_mangle]
-pub extern "C" fn probe_close(bytes: &mut [u8]) -> u64 {
+pub extern "C" fn probe_close(bytes: &mut [u8], work: &mut [u8]) -> u64 {
     if bytes.len() != state::LEN {
         return NO_BUFFER;
     }
-    give(state::load(bytes).close(), bytes)
+    give(state::load(bytes).close(), bytes, work)
 }
 
 #[no_mangle]
-pub extern "C" fn probe_feed(bytes: &mut [u8], piece: &[u8], output: &mut [u8]) -> u64 {
+pub extern "C" fn probe_feed(
+    bytes: &mut [u8],
+    piece: &[u8],
+    output: &mut [u8],
+    work: &mut [u8],
+) -> u64 {
     if bytes.len() != state::LEN {
         return NO_BUFFER;
     }
-    give(state::load(bytes).feed(piece, output), bytes)
+    give(state::load(bytes).feed(piece, output), bytes, work)
 }
 
 #[no_mangle]
-pub extern "C" fn probe_finish(bytes: &mut [u8], output: &mut [u8]) -> u64 {
+pub extern "C" fn probe_finish(bytes: &mut [u8], output: &mut [u8], work: &mut [u8]) -> u64 {
     if bytes.len() != state::LEN {
         return NO_BUFFER;
     }
-    give(state::load(bytes).finish(output), bytes)
+    give(state::load(bytes).finish(output), bytes, work)
 }
 
 // Seals input by pieces of at most n bytes, n at least 1: the tag and then the ciphertext to the front of output. The state never leaves this call, so that it can be timed.

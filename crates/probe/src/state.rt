@@ -6,8 +6,8 @@ use crate::fields;
 use stream::Stream;
 use stream::Tail;
 
-// How many bytes a state has: stage 1, width 8, two times 240, four times 16, total, written and the tail's length 8 each, tail 31.
-pub(crate) const LEN: usize = 608;
+// How many bytes a state has: stage 1, width 8, two times 240, five times 16, total, written and the tail's length 8 each, tail 31.
+pub(crate) const LEN: usize = 624;
 
 fn tail_at(s: &[u8], at: usize) -> Tail
     requires { ⌜ at + 31 ≤ length (now s) ⌝ }
@@ -25,7 +25,7 @@ fn put_tail(s: &mut [u8], at: usize, tail: Tail)
 
 // The state that bytes stand for.
 pub(crate) fn load(s: &[u8]) -> Stream
-    requires { ⌜ length (now s) ≡ 608 ⌝ }
+    requires { ⌜ length (now s) ≡ 624 ⌝ }
 {
     Stream {
         stage: s[0],
@@ -36,16 +36,17 @@ pub(crate) fn load(s: &[u8]) -> Stream
         d: octets::load(s, 505),
         chain: octets::load(s, 521),
         v: octets::load(s, 537),
-        total: fields::number_at(s, 553),
-        written: fields::number_at(s, 561),
-        tail_len: fields::number_at(s, 569),
-        tail: tail_at(s, 577),
+        kept: octets::load(s, 553),
+        total: fields::number_at(s, 569),
+        written: fields::number_at(s, 577),
+        tail_len: fields::number_at(s, 585),
+        tail: tail_at(s, 593),
     }
 }
 
 // Writes a state's round keys.
 fn store_keys(s: Stream, bytes: &mut [u8])
-    requires { ⌜ length (now bytes) ≡ 608 ⌝ }
+    requires { ⌜ length (now bytes) ≡ 624 ⌝ }
 {
     let mac_keys = s.mac_keys;
     let ctr_keys = s.ctr_keys;
@@ -55,37 +56,39 @@ fn store_keys(s: Stream, bytes: &mut [u8])
 
 // Writes its blocks.
 fn store_blocks(s: Stream, bytes: &mut [u8])
-    requires { ⌜ length (now bytes) ≡ 608 ⌝ }
+    requires { ⌜ length (now bytes) ≡ 624 ⌝ }
 {
     let l = s.l;
     let d = s.d;
     let chain = s.chain;
     let v = s.v;
+    let kept = s.kept;
     octets::store(bytes, 489, l);
     octets::store(bytes, 505, d);
     octets::store(bytes, 521, chain);
     octets::store(bytes, 537, v);
+    octets::store(bytes, 553, kept);
 }
 
 // Writes its numbers.
 fn store_numbers(s: Stream, bytes: &mut [u8])
-    requires { ⌜ length (now bytes) ≡ 608 ⌝ }
+    requires { ⌜ length (now bytes) ≡ 624 ⌝ }
 {
     let stage = [s.stage];
     octets::copy_at(bytes, 0, &stage);
     fields::put_number(bytes, 1, s.width);
-    fields::put_number(bytes, 553, s.total);
-    fields::put_number(bytes, 561, s.written);
-    fields::put_number(bytes, 569, s.tail_len);
+    fields::put_number(bytes, 569, s.total);
+    fields::put_number(bytes, 577, s.written);
+    fields::put_number(bytes, 585, s.tail_len);
 }
 
 // Writes a state's bytes.
 pub(crate) fn store(s: Stream, bytes: &mut [u8])
-    requires { ⌜ length (now bytes) ≡ 608 ⌝ }
+    requires { ⌜ length (now bytes) ≡ 624 ⌝ }
 {
     let tail = s.tail;
     store_keys(s, bytes);
     store_blocks(s, bytes);
     store_numbers(s, bytes);
-    put_tail(bytes, 577, tail);
+    put_tail(bytes, 593, tail);
 }

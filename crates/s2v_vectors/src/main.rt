@@ -2,6 +2,7 @@
 ghost use Prim.Native.Nat.{_+_, _≤_, _<_};
 ghost use lib.ListN.{length};
 ghost use Rattle.aes.specs.Engine.{Ready};
+use aes::Counted;
 use aes::Engine;
 use aes::RoundKeys;
 use cmac::Subkeys;
@@ -21,12 +22,25 @@ fn half_keys(engine: &Engine, key: &[u8], at: usize) -> RoundKeys
     aes::round_keys(engine, &key[at..at + 16])
 }
 
+// The block that was counted.
+fn block_of(c: Counted) -> Block {
+    let b = c.block;
+    b
+}
+
+// The subkeys of a half's round keys.
+fn subkeys(engine: &Engine, keys: &RoundKeys) -> Subkeys
+    requires { ⌜ Ready (now engine) ⌝ }
+{
+    cmac::make_subkeys(block_of(cmac::zero_cipher(engine, 16, keys)))
+}
+
 // Prints the CMAC of the zero block.
 fn start(engine: &Engine, keys: &RoundKeys, k: Subkeys) -> Block
     requires { ⌜ Ready (now engine) ⌝ }
 {
     let zero = [0u8; 16];
-    let d = cmac::cmac_from(engine, 16, keys, k, zero, &zero);
+    let d = block_of(cmac::cmac_from(engine, 16, keys, k, zero, &zero));
     printer::line(b"    CMAC(zero)", &d);
     d
 }
@@ -36,7 +50,7 @@ fn string(engine: &Engine, keys: &RoundKeys, k: Subkeys, d: Block, s: &[u8]) -> 
     requires { ⌜ Ready (now engine) ⌝ }
 {
     let doubled = cmac::double(d);
-    let t = cmac::cmac_from(engine, 16, keys, k, [0u8; 16], s);
+    let t = block_of(cmac::cmac_from(engine, 16, keys, k, [0u8; 16], s));
     let next = octets::xor_block(doubled, t);
     printer::line(b"    double", &doubled);
     printer::line(b"    CMAC", &t);
@@ -73,7 +87,7 @@ fn counter(engine: &Engine, keys: &RoundKeys, q: Block, i: u64)
     requires { ⌜ Ready (now engine) ⌝ }
 {
     let b = ctr::plus(q, i);
-    let e = aes::encrypt(engine, 16, keys, b);
+    let e = block_of(aes::encrypt(engine, 16, keys, b));
     printer::line(b"    CTR", &b);
     printer::line(b"    E(K,CTR)", &e);
 }
@@ -84,7 +98,7 @@ fn ciphertext(engine: &Engine, keys: &RoundKeys, v: Block, p: &[u8])
 {
     let n = p.len();
     let mut c = [0u8; 64];
-    ctr::xor_stream(engine, 16, keys, v, 0, p, &mut c, 0);
+    ctr::xor_from(engine, 16, keys, v, 0, p, &mut c, 0);
     printer::line(b"    ciphertext", &c[0..n]);
 }
 
@@ -99,10 +113,10 @@ fn a1_tag(engine: &Engine) -> Block
     requires { ⌜ Ready (now engine) ⌝ }
 {
     let keys = half_keys(engine, &A1_KEY, 0);
-    let k = cmac::make_subkeys(cmac::zero_cipher(engine, 16, &keys));
+    let k = subkeys(engine, &keys);
     let d = a1_header(engine, &keys, k);
     short_end(d, &A1_PLAINTEXT);
-    let v = s2v::tag(engine, 16, &keys, k, d, &A1_PLAINTEXT);
+    let v = block_of(s2v::tag(engine, 16, &keys, k, d, &A1_PLAINTEXT));
     printer::line(b"    CMAC(final)", &v);
     v
 }
@@ -131,9 +145,9 @@ fn a2_tag(engine: &Engine, keys: &RoundKeys, k: Subkeys) -> Block
     requires { ⌜ Ready (now engine) ⌝ }
 {
     a2_header(engine, keys, k);
-    let d = s2v::make_header_result(engine, 16, keys, k, &A2_HEADER, &A2_LENS);
+    let d = block_of(s2v::make_header_result(engine, 16, keys, k, &A2_HEADER, &A2_LENS));
     long_end(d, &A2_PLAINTEXT);
-    let v = s2v::tag(engine, 16, keys, k, d, &A2_PLAINTEXT);
+    let v = block_of(s2v::tag(engine, 16, keys, k, d, &A2_PLAINTEXT));
     printer::line(b"    CMAC(final)", &v);
     v
 }
@@ -154,7 +168,7 @@ fn a2(engine: &Engine)
 {
     printer::text(b"A.2\n");
     let keys = half_keys(engine, &A2_KEY, 0);
-    let k = cmac::make_subkeys(cmac::zero_cipher(engine, 16, &keys));
+    let k = subkeys(engine, &keys);
     let v = a2_tag(engine, &keys, k);
     a2_text(engine, v);
 }

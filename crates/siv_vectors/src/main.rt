@@ -41,7 +41,8 @@ fn refused_at(key: &[u8], header: &[u8], lens: &[u32], sealed: &[u8], i: usize) 
     damage(&mut damaged, i);
     let mut output = [0xffu8; 64];
     let mut scratch = [0xffu8; 64];
-    let answer = siv::open(key, header, lens, &damaged[0..n], &mut output, &mut scratch);
+    let report = siv::open(key, header, lens, &damaged[0..n], &mut output, &mut scratch);
+    let answer = report.answer;
     let wiped = zeros(&output[0..n - 16]);
     match answer {
         Answer::Ok(_) => false,

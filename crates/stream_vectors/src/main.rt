@@ -291,6 +291,27 @@ fn spoiled() {
     show(b"  another D, which is used as it is", s.add(&p));
 }
 
+// A kept block where the key stream is at a block's start, in each stage; and one where it is not.
+fn kept_blocks() {
+    let p = A2_PLAINTEXT;
+    let tag = [0u8; 16];
+    let mut output = [0u8; 63];
+    let mut s = state_of(sealer().add(&p));
+    s.kept = [0xffu8; 16];
+    show(b"  kept block in stage 1", s.turn(&mut output));
+    let mut s = state_of(state_of(sealer().add(&p)).turn(&mut output));
+    s.kept = [0xffu8; 16];
+    show(b"  kept block of none written", s.write(&p, &mut output));
+    s.written = 46;
+    show(
+        b"  kept block of 46 written, which is used as it is",
+        s.write(&[1], &mut output),
+    );
+    let mut s = opener(&tag);
+    s.kept = [0xffu8; 16];
+    show(b"  kept block of none fed", s.feed(&p, &mut output));
+}
+
 // Pieces past the limit.
 fn limits() {
     let p = A2_PLAINTEXT;
@@ -365,6 +386,7 @@ fn main() {
     finished(&sealed);
     printer::text(b"spoiled states\n");
     spoiled();
+    kept_blocks();
     printer::text(b"limits\n");
     limits();
     short_outputs();

@@ -17,7 +17,10 @@ slice-aggregate-make-header-result-2 c = search needs
 
 make-header-result-requires : tie.Need-make-header-result-requires
 unfolding total
-make-header-result-requires c κs = (search needs, search needs, omega arith)
+make-header-result-requires c κs = (search needs, search needs, omega arith, search needs)
+
+block-of-requires : tie.Need-block-of-requires
+block-of-requires c κs = search needs
 
 slice-aggregate-long-end : tie.Need-slice-aggregate-long-end
 slice-aggregate-long-end c = search needs
@@ -30,6 +33,9 @@ slice-aggregate-tag c = search needs
 
 tag-requires : tie.Need-tag-requires
 tag-requires c κs = search needs
+
+block-of-requires-2 : tie.Need-block-of-requires-2
+block-of-requires-2 c κs = search needs
 
 slice-aggregate-line : tie.Need-slice-aggregate-line
 slice-aggregate-line c = search needs
@@ -51,10 +57,12 @@ a2-tag-spec =
     slice-aggregate-make-header-result
     slice-aggregate-make-header-result-2
     make-header-result-requires
+    block-of-requires
     slice-aggregate-long-end
     long-end-requires
     slice-aggregate-tag
     tag-requires
+    block-of-requires-2
     slice-aggregate-line
     slice-aggregate-line-2
     line-requires
