@@ -1,7 +1,7 @@
 -- Laws of joined strings, of what refusal 9 judges and of the calls' results.
 -- Assumes nothing.
 use mathlib.Core.Path.{_≡_, refl, ap, ap₂, sym, subst, _∙_}
-use mathlib.Core.Bool.{Bool, true, false, not, cond, _&&_, and-eq-true-iff}
+use mathlib.Core.Bool.{Bool, true, false, not, cond, _&&_, _||_, and-eq-true-iff}
 use mathlib.Core.List.{List, [], _∷_, _++_, append-assoc}
 use Prim.Native.Nat.{ℕ, suc, _+_, _-_, _*_, _/_, _%_, _≤_, _<_, min}
 use native.Mathlib.Numerals.{add-one}
@@ -10,7 +10,7 @@ use native.Mathlib.Omega.{arith}
 use lib.Dec.{eqb, ltb}
 use lib.ListN.{length, getD, take, drop, replicate, length-drop, drop-of-length-le}
 use lib.Seq.{take-all, take-append-le, take-append-add, drop-append-le, drop-append-add, drop-cons, length-take-le, take-at, drop-at}
-use borrow.Author.Tests.{eqb-true, eq-eqb, ne-eqb, ltb-false, not-true, not-false}
+use borrow.Author.Tests.{eqb-true, eq-eqb, ne-eqb, lt-ltb, le-ltb, ltb-false, not-true, not-false}
 use Rattle.octets.specs.Octets.{xors, put, part, same}
 use Rattle.octets.proofs.Strings.{part-to, length-xors, put-put}
 use Rattle.aes.specs.Aes.{isWidth}
@@ -57,20 +57,35 @@ module _ (a b : List ℕ) (at n : ℕ) where
 
 -- ---- what refusal 9 judges
 
-pub zero-more : (s : List ℕ) (i : ℕ) → i < length s → getD s i 0 ≡ 0 → allZero (drop i s) ≡ allZero (drop (i + 1) s)
-unfolding allZero
-zero-more s i h e =
-    ap allZero (drop-cons s i 0 h)
-    ∙ ap (λ (t : Bool). t && allZero (drop (suc i) s)) (eq-eqb (getD s i 0) 0 e)
-    ∙ ap (λ (k : ℕ). allZero (drop k s)) (sym (add-one i))
+-- the bytes from place at on that stand at i or behind it
+abbrev pub behind : List ℕ → ℕ → ℕ → List ℕ
+behind s at i = drop (cond (ltb i at) at i) s
 
-pub zero-stop : (s : List ℕ) (i : ℕ) → i < length s → (getD s i 0 ≡ 0 → ⊥) → allZero (drop i s) ≡ false
-unfolding allZero
-zero-stop s i h e = ap allZero (drop-cons s i 0 h) ∙ ap (λ (t : Bool). t && allZero (drop (suc i) s)) (ne-eqb (getD s i 0) 0 e)
+pub zero-begin : (s : List ℕ) (at : ℕ) → behind s at 0 ≡ drop at s
+zero-begin s at = go (decLt 0 at)
+  where
+    go : Dec (0 < at) → behind s at 0 ≡ drop at s
+    go (yes k) = simp (lt-ltb 0 at k) refl
+    go (no k) = let e : at ≡ 0 = omega arith in simp e refl
 
-pub zero-end : (s : List ℕ) (i : ℕ) → length s ≤ i → allZero (drop i s) ≡ true
+pub zero-more : (s : List ℕ) (at i : ℕ) → i < length s → allZero (behind s at i) ≡ ((ltb i at || eqb (getD s i 0) 0) && allZero (behind s at (i + 1)))
 unfolding allZero
-zero-end s i h = ap allZero (drop-of-length-le s h)
+zero-more s at i h = go (decLt i at) (decLt (i + 1) at)
+  where
+    go : Dec (i < at) → Dec (i + 1 < at) → allZero (behind s at i) ≡ ((ltb i at || eqb (getD s i 0) 0) && allZero (behind s at (i + 1)))
+    go (yes k) (yes m) = simp (lt-ltb i at k, lt-ltb (i + 1) at m) refl
+    go (yes k) (no m) = let e : at ≡ i + 1 = omega arith in simp (lt-ltb i at k, le-ltb (i + 1) at (omega arith)) (ap (λ (n : ℕ). allZero (drop n s)) e)
+    go (no k) m =
+        simp (le-ltb i at (omega arith), le-ltb (i + 1) at (omega arith))
+        (ap allZero (drop-cons s i 0 h) ∙ ap (λ (n : ℕ). eqb (getD s i 0) 0 && allZero (drop n s)) (sym (add-one i)))
+
+pub zero-end : (s : List ℕ) (at i : ℕ) → length s ≤ i → allZero (behind s at i) ≡ true
+unfolding allZero
+zero-end s at i h = go (decLt i at)
+  where
+    go : Dec (i < at) → allZero (behind s at i) ≡ true
+    go (yes k) = simp (lt-ltb i at k) (ap allZero (drop-of-length-le s {i = at} (omega arith)))
+    go (no k) = simp (le-ltb i at (omega arith)) (ap allZero (drop-of-length-le s h))
 
 -- what a state that fits may be relied on for
 pub record Fit (wanted : ℕ) (s : Stream) : Type 0 where

@@ -1,5 +1,6 @@
 -- The stream state: which ones a call takes, and what a piece makes of one. Document 01, "Piecewise calls", and slips 4 and 5 of document 02.
 -- Assumes nothing.
+use mathlib.Core.Path.{_≡_}
 use mathlib.Core.Bool.{Bool, true, not, cond, _&&_, _||_}
 use mathlib.Core.List.{List, [], _∷_, _++_}
 use Prim.Native.Nat.{ℕ, _+_, _-_, _*_, _/_, _%_}
@@ -14,6 +15,7 @@ use Rattle.ctr.specs.Counter.{xorPiece, keptAfter}
 use Rattle.siv.specs.Calls.{limit}
 use Rattle.head.specs.declared.Head.{Head}
 use Rattle.stream.specs.declared.Stream.{Stream}
+use Rattle.stream.specs.declared.tail.Absorbed.{Absorbed}
 
 -- the ended state: all fields zero
 abbrev pub ended : Stream
@@ -127,6 +129,11 @@ added s piece =
 
 unfoldable pub addedWork : Stream → ℕ → ℕ
 addedWork s n = chainWork (leavingBlocks s n)
+
+-- the fields that a piece changes: with them a state is the one with the piece, and the work is its work
+pub record Absorbs (s : Stream) (piece : List ℕ) (fields : Absorbed) : Type 0 where
+  pub state : stateWith s (fields .chain .block) (fields .total) (fields .«tail_len») (fields .tail) ≡ added s piece
+  pub work : fields .chain .work ≡ addedWork s (length piece)
 
 -- V of all that was added
 unfoldable pub tagOfState : Stream → List ℕ

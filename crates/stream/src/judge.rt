@@ -1,6 +1,6 @@
 // Which refusal is due, from a state and from lengths.
 ghost use mathlib.Core.Path.{_≡_};
-ghost use mathlib.Core.Bool.{not, _&&_};
+ghost use mathlib.Core.Bool.{not, _&&_, _||_};
 ghost use Prim.Native.Nat.{_+_, _≤_};
 ghost use lib.Dec.{eqb, ltb};
 ghost use lib.ListN.{length, drop};
@@ -12,18 +12,30 @@ use crate::Stream;
 use siv::Answer;
 use siv::Refusal;
 
-// Whether the bytes of a slice from a place on are zero.
+// Whether what was zero so far is, with a byte more at place i, which counts from place at on.
+fn still_zero(zero: bool, i: usize, at: usize, b: u8) -> bool
+    ensures { λ r. ⌜ r ≡ (zero && (ltb i at || eqb b 0)) ⌝ }
+{
+    if i < at {
+        return zero;
+    }
+    if b == 0 {
+        return zero;
+    }
+    false
+}
+
+// Whether the bytes of a slice from a place on are zero; it reads all of them, which the compiler does by sixteens.
 fn zero_from(s: &[u8], at: usize) -> bool
     ensures { λ r. ⌜ r ≡ allZero (drop at (now (s .entry))) ⌝ }
 {
-    let mut i = at;
+    let mut zero = true;
+    let mut i = 0;
     while i < s.len() {
-        if s[i] != 0 {
-            return false;
-        }
+        zero = still_zero(zero, i, at, s[i]);
         i += 1;
     }
-    true
+    zero
 }
 
 // The most that written may be in a stage.

@@ -48,8 +48,8 @@ pub struct Stream {
 // What a call hands back; its work in blocks is 0 after a refusal other than Forged.
 pub struct Step {
     pub answer: Answer,
-    pub work: usize,
     pub state: Stream,
+    pub work: usize,
 }
 
 impl Stream {
@@ -93,7 +93,7 @@ impl Stream {
     }
 
     // Adds a piece of plaintext.
-    pub fn add(self, piece: &[u8]) -> Step
+    pub fn add(mut self, piece: &[u8]) -> Step
         ensures { λ r. ⌜ DidStep (addStep self (now (piece .entry))) r [] ⌝ }
     {
         let answer = judge::judge_add(self, piece.len());
@@ -104,7 +104,19 @@ impl Stream {
                 state: self,
             };
         }
-        tail::absorb(self, piece)
+        let absorbed = tail::absorb(self, piece);
+        let chain = absorbed.chain;
+        let block = chain.block;
+        let tail = absorbed.tail;
+        self.chain = block;
+        self.total = absorbed.total;
+        self.tail_len = absorbed.tail_len;
+        self.tail = tail;
+        Step {
+            answer: Answer::Ok(0),
+            state: self,
+            work: chain.work,
+        }
     }
 
     // Ends the adding: V goes to the first 16 bytes of output.
@@ -190,12 +202,18 @@ impl Stream {
         let end = work::stream_at(self, at, piece, output, at);
         let kept = end.block;
         self.kept = kept;
-        let added = tail::absorb(self, &output[at..at + n]);
-        let state = added.state;
+        let absorbed = tail::absorb(self, &output[at..at + n]);
+        let chain = absorbed.chain;
+        let block = chain.block;
+        let tail = absorbed.tail;
+        self.chain = block;
+        self.total = absorbed.total;
+        self.tail_len = absorbed.tail_len;
+        self.tail = tail;
         Step {
             answer: Answer::Ok(n),
-            work: end.work + added.work,
-            state,
+            state: self,
+            work: end.work + chain.work,
         }
     }
 

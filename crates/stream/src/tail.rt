@@ -10,16 +10,21 @@ ghost use Rattle.aes.specs.Work.{Reports};
 ghost use Rattle.cmac.specs.Cmac.{chain, chainWork};
 ghost use Rattle.s2v.specs.S2v.{tailLength};
 ghost use Rattle.siv.specs.Calls.{limit};
-ghost use Rattle.stream.specs.State.{tailOf, added, addedWork};
-ghost use Rattle.stream.specs.Steps.{DidStep, doneStep};
-use crate::Step;
+ghost use Rattle.stream.specs.State.{tailOf, Absorbs};
 use crate::Stream;
 use crate::Tail;
 use aes::Counted;
 use aes::Engine;
 use aes::RoundKeys;
 use octets::Block;
-use siv::Answer;
+
+// The fields of a state that a piece of plaintext changes, the chain with its work.
+pub(crate) struct Absorbed {
+    pub chain: Counted,
+    pub total: usize,
+    pub tail_len: usize,
+    pub tail: Tail,
+}
 
 // Copies n bytes from a place of two joined strings to the front of a slice.
 fn copy_joined(dst: &mut [u8], a: &[u8], b: &[u8], at: usize, n: usize)
@@ -121,29 +126,24 @@ fn tail_joined(a: &[u8], b: &[u8], at: usize, n: usize) -> Tail
     tail
 }
 
-// Adds a piece of plaintext: of the tail and the piece, n blocks go into the chain, and what is left is the tail.
-pub(crate) fn absorb(s: Stream, piece: &[u8]) -> Step
+// What a piece of plaintext makes of a state's fields that it changes: of the tail and the piece, n blocks go into the chain, and what is left is the tail.
+pub(crate) fn absorb(s: Stream, piece: &[u8]) -> Absorbed
     requires { ⌜ (s .width ≤ 32) × (s .«tail_len» ≡ tailLength (s .total)) × (s .total + length (now piece) ≤ limit) ⌝ }
-    ensures { λ r. ⌜ DidStep (doneStep 0 (addedWork s (length (now (piece .entry)))) (added s (now (piece .entry))) []) r [] ⌝ }
+    ensures { λ r. ⌜ Absorbs s (now (piece .entry)) r ⌝ }
 {
-    let mut next = s;
     let total = s.total + piece.len();
     let used = s.tail_len;
-    let left = s2v::tail_len(total);
-    let n = (used + piece.len() - left) / 16;
-    let tail = s.tail;
+    let tail_len = s2v::tail_len(total);
+    let n = (used + piece.len() - tail_len) / 16;
+    let old = s.tail;
     let keys = s.mac_keys;
     let c = s.chain;
-    let chain = chain_text(s.width, &keys, c, &tail[0..used], piece, n);
-    let block = chain.block;
-    let rest = tail_joined(&tail[0..used], piece, 16 * n, left);
-    next.chain = block;
-    next.total = total;
-    next.tail_len = left;
-    next.tail = rest;
-    Step {
-        answer: Answer::Ok(0),
-        work: chain.work,
-        state: next,
+    let chain = chain_text(s.width, &keys, c, &old[0..used], piece, n);
+    let tail = tail_joined(&old[0..used], piece, 16 * n, tail_len);
+    Absorbed {
+        chain,
+        total,
+        tail_len,
+        tail,
     }
 }

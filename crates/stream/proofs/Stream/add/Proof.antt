@@ -1,9 +1,9 @@
 -- `stream::Stream::add` meets its contract.
 -- Assumes nothing.
-use mathlib.Core.Path.{_≡_}
+use mathlib.Core.Path.{_≡_, refl, ap}
 use lib.ListN.{length}
 use borrow.Author.Needs.{needs}
-use Rattle.siv.specs.Answer.{first}
+use Rattle.siv.specs.Answer.{success, first}
 use Rattle.siv.proofs.Laws.{told-refused, passed}
 use Rattle.stream.specs.Steps.{addRows, addStep}
 use Rattle.stream.proofs.Laws.{refused, done, add-admits}
@@ -33,7 +33,9 @@ absorb-requires c κs =
 
 returns-2 : tie.Need-returns-2
 unfolding addStep
-returns-2 c = done _ _ _ _ (none (c .before .before)) (c .absorb .ensures)
+returns-2 c =
+    let step = c .before .before .before .absorb .ensures in
+    done _ _ _ _ (none (c .before .before .before .before .before)) (record { outcome = ap (success 0) (step .work); state = step .state; output = refl })
 
 pub add-spec : {M : Type 1} → statement M
 add-spec =

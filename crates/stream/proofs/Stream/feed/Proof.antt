@@ -1,7 +1,7 @@
 -- `stream::Stream::feed` meets its contract.
 -- Assumes nothing.
-use mathlib.Core.Path.{_≡_, refl, ap, ap₂, sym, _∙_}
-use mathlib.Core.List.{List, []}
+use mathlib.Core.Path.{_≡_, ap, ap₂, _∙_}
+use mathlib.Core.List.{List}
 use Prim.Native.Nat.{ℕ, _+_}
 use native.Mathlib.Omega.{arith}
 use lib.ListN.{length, length-take, length-drop}
@@ -10,10 +10,10 @@ use Rattle.cmac.specs.Cmac.{chainWork}
 use Rattle.cmac.proofs.Laws.{chain-work}
 use Rattle.ctr.specs.Counter.{newBlocks, pieceWork}
 use Rattle.ctr.proofs.Laws.{stream-work}
-use Rattle.siv.specs.Answer.{Outcome, success, first}
-use Rattle.siv.proofs.Laws.{told-refused, passed, outcome-work}
-use Rattle.stream.specs.State.{leavingBlocks, added, addedWork, streamedAt, streamedWith}
-use Rattle.stream.specs.Steps.{DidStep, doneStep, feedRows, deciphered, feedStep}
+use Rattle.siv.specs.Answer.{success, first}
+use Rattle.siv.proofs.Laws.{told-refused, passed}
+use Rattle.stream.specs.State.{leavingBlocks, stateWith, added, addedWork, streamedAt, streamedWith}
+use Rattle.stream.specs.Steps.{feedRows, deciphered, feedStep}
 use Rattle.stream.proofs.Laws.{refused, done, feed-admits, cut, length-streamedAt, read-back}
 use Rattle.stream.proofs.Stream.feed.Statement.{statement}
 use Rattle.stream.proofs.Stream.feed.Tie as tie
@@ -62,12 +62,14 @@ absorb-requires c κs =
     let a = feed-admits _ _ _ (none (c .before .before .before .before .before .before .before .before)) in
     (a .0 .width, a .0 .tailLen, simp (length-take, length-drop) (omega (arith, a .1)))
 
--- the plaintext is added to the state that keeps the block, with the work for as many bytes
+-- the fields that make of the state that keeps the block the one with the plaintext, and the work for as many bytes
 joined : (c : tie.After-absorb)
     → let args = c .before .before .before .before .before .before .before .before .before .before .before .before .before .args in
     let s = args .self in
     let n = length (args .piece .now) in
-    DidStep (doneStep 0 (addedWork s n) (added (deciphered s n) (streamedAt s (s .total) (args .piece .now))) []) (c .absorb .result) []
+    let fields = c .absorb .result in
+    (stateWith (streamedWith s (c .before .before .before .before .before .before .stream-at .result .block) (s .written)) (fields .chain .block) (fields .total) (fields .«tail_len») (fields .tail) ≡ added (deciphered s n) (streamedAt s (s .total) (args .piece .now)))
+    × (fields .chain .work ≡ addedWork s n)
 unfolding addedWork
 joined c =
     let wrote = c .before .before .before .before .before .before in
@@ -80,26 +82,19 @@ joined c =
     let end = wrote .stream-at .ensures in
     let fed = read-back (args .output .now) (s .total) n p (end .1) (length-streamedAt s (s .total) text) (a .2) in
     let long = ap length fed ∙ length-streamedAt s (s .total) text in
-    let step = c .absorb .ensures in
-    record {
-      outcome = step .outcome ∙ ap (λ (m : ℕ). success 0 (chainWork (leavingBlocks s m))) long;
-      state = step .state ∙ ap₂ (λ (k t : List ℕ). added (streamedWith s k (s .written)) t) (end .0 .block) fed;
-      output = refl;
-    }
+    let step = c .absorb .ensures in (
+      step .state ∙ ap₂ (λ (k t : List ℕ). added (streamedWith s k (s .written)) t) (end .0 .block) fed,
+      step .work ∙ ap (λ (m : ℕ). chainWork (leavingBlocks s m)) long,
+    )
 
-work-of : (c : tie.After-absorb)
-    → let args = c .before .before .before .before .before .before .before .before .before .before .before .before .before .args in
-    c .absorb .result .work ≡ addedWork (args .self) (length (args .piece .now))
-work-of c = sym (outcome-work (c .absorb .result .answer) (c .absorb .result .work)) ∙ ap (λ (o : Outcome). o .work) (joined c .outcome)
-
-add-t11 : tie.Need-add-t11
+add-t13 : tie.Need-add-t13
 unfolding pieceWork addedWork
-add-t11 c =
-    let absorbed = c .before .before .before in
+add-t13 c =
+    let absorbed = c .before .before .before .before .before in
     let wrote = absorbed .before .before .before .before .before .before in
     let s = wrote .before .before .before .before .before .before .before .args .self in
     let n = length (wrote .before .before .before .before .before .before .before .args .piece .now) in
-    omega (arith, wrote .stream-at .ensures .0 .work ∙ stream-work (newBlocks (s .total) n), work-of absorbed ∙ chain-work (leavingBlocks s n), cut (s .total + n), feed-admits _ _ _ (none (wrote .before .before .before)) .1)
+    omega (arith, wrote .stream-at .ensures .0 .work ∙ stream-work (newBlocks (s .total) n), joined absorbed .1 ∙ chain-work (leavingBlocks s n), cut (s .total + n), feed-admits _ _ _ (none (wrote .before .before .before)) .1)
 
 same-length : tie.Need-same-length
 same-length c = search needs
@@ -107,12 +102,12 @@ same-length c = search needs
 returns-2 : tie.Need-returns-2
 unfolding feedStep
 returns-2 c =
-    let absorbed = c .before .before .before in
+    let absorbed = c .before .before .before .before .before in
     let wrote = absorbed .before .before .before .before .before .before in
     let n = length (wrote .before .before .before .before .before .before .before .args .piece .now) in
     let end = wrote .stream-at .ensures in
     done _ _ _ _ (none (wrote .before .before .before))
-    (record { outcome = ap (success n) (ap₂ _+_ (end .0 .work) (work-of absorbed)); state = joined absorbed .state; output = end .1 })
+    (record { outcome = ap (success n) (ap₂ _+_ (end .0 .work) (joined absorbed .1)); state = joined absorbed .0; output = end .1 })
 
 pub feed-spec : {M : Type 1} → statement M
 feed-spec =
@@ -128,6 +123,6 @@ feed-spec =
     part-absorb-start
     part-absorb-end
     absorb-requires
-    add-t11
+    add-t13
     same-length
     returns-2)

@@ -1,32 +1,31 @@
 -- `stream::judge::zero_from` meets its contract.
 -- Assumes nothing.
-use mathlib.Core.Path.{_≡_, refl, sym, _∙_}
-use Prim.Native.Nat.{_-_}
+use mathlib.Core.Path.{_≡_, ap, sym, _∙_}
+use mathlib.Core.Bool.{Bool, _&&_, and-assoc, and-true}
+use Prim.Native.Nat.{_+_, _-_}
 use native.Mathlib.Omega.{arith}
 use lib.ListN.{length, drop}
 use borrow.Author.Needs.{needs}
 use Rattle.stream.specs.State.{allZero}
-use Rattle.stream.proofs.Laws.{zero-more, zero-stop, zero-end}
+use Rattle.stream.proofs.Laws.{behind, zero-begin, zero-more, zero-end}
 use Rattle.stream.proofs.judge.zero_from.Statement.{statement}
 use Rattle.stream.proofs.judge.zero_from.Tie as tie
 
+-- what was zero so far, and the bytes that are left
 abbrev Inv-loop : tie.InvT-loop
-Inv-loop s at i₀ i = allZero (drop at s) ≡ allZero (drop i s)
+Inv-loop s at zero₀ i₀ zero i = allZero (drop at s) ≡ (zero && allZero (behind s at i))
 
 abbrev μ-loop : tie.MeasureT-loop
-μ-loop s at i₀ i = length s - i
+μ-loop s at zero₀ i₀ zero i = length s - i
 
 loop-holds : tie.Need-loop-holds Inv-loop μ-loop
-loop-holds c = refl
+loop-holds c = ap allZero (sym (zero-begin (c .before .args .s .now) (c .before .args .at)))
 
-shared-slice-read-if1 : tie.Need-shared-slice-read-if1 Inv-loop μ-loop
-shared-slice-read-if1 c = search needs
+shared-slice-read-still-zero : tie.Need-shared-slice-read-still-zero Inv-loop μ-loop
+shared-slice-read-still-zero c = search needs
 
-returns : tie.Need-returns Inv-loop μ-loop
-returns c =
-    let args = c .before .before .before .before .args in
-    let i = c .before .before .before .loop .i in
-    sym (c .before .before .before .loop .inv ∙ zero-stop (args .s .now) i (omega arith) (c .if1 .taken))
+still-zero-requires : tie.Need-still-zero-requires Inv-loop μ-loop
+still-zero-requires c κs = search needs
 
 add-i : tie.Need-add-i Inv-loop μ-loop
 add-i c = search needs
@@ -36,14 +35,20 @@ loop-less c = search needs
 
 loop-again : tie.Need-loop-again Inv-loop μ-loop
 loop-again c =
-    let args = c .before .before .before .before .args in
-    let i = c .before .before .before .loop .i in
-    c .before .before .before .loop .inv ∙ zero-more (args .s .now) i (omega arith) (c .if1 .left)
+    let args = c .before .before .before .before .before .args in
+    let at-turn = c .before .before .before in
+    let i = at-turn .loop .i in
+    let rest = allZero (behind (args .s .now) (args .at) (i + 1)) in
+    at-turn .loop .inv
+    ∙ ap (λ (r : Bool). at-turn .loop .zero && r) (zero-more (args .s .now) (args .at) i (omega arith))
+    ∙ sym (and-assoc (at-turn .loop .zero) _ rest)
+    ∙ ap (λ (z : Bool). z && rest) (sym (c .still-zero .ensures))
 
-returns-2 : tie.Need-returns-2 Inv-loop μ-loop
-returns-2 c =
-    let args = c .before .before .args in
-    sym (c .before .loop .inv ∙ zero-end (args .s .now) (c .before .loop .i) (omega arith))
+returns : tie.Need-returns Inv-loop μ-loop
+returns c =
+    let args = c .before .before .before .args in
+    let loop = c .before .loop in
+    sym (loop .inv ∙ ap (λ (r : Bool). loop .zero && r) (zero-end (args .s .now) (args .at) (loop .i) (omega arith)) ∙ and-true (loop .zero))
 
 pub zero-from-spec : {M : Type 1} → statement M
 zero-from-spec =
@@ -52,9 +57,9 @@ zero-from-spec =
     Inv-loop
     μ-loop
     loop-holds
-    shared-slice-read-if1
-    returns
+    shared-slice-read-still-zero
+    still-zero-requires
     add-i
     loop-less
     loop-again
-    returns-2)
+    returns)

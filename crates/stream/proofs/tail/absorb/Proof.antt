@@ -1,13 +1,12 @@
 -- `stream::tail::absorb` meets its contract.
 -- Assumes nothing.
-use mathlib.Core.Path.{_≡_, refl, ap, _∙_}
+use mathlib.Core.Path.{_≡_, ap, _∙_}
 use Prim.Native.Nat.{_+_, _-_, _/_}
 use native.Mathlib.Omega.{arith}
 use lib.ListN.{length, length-take}
 use borrow.Author.Needs.{needs}
 use Rattle.cmac.specs.Cmac.{chainWork}
 use Rattle.s2v.specs.S2v.{tailLength}
-use Rattle.siv.specs.Answer.{success}
 use Rattle.stream.specs.State.{leavingBlocks, addedWork}
 use Rattle.stream.proofs.Laws.{Piece, piece, absorbed}
 use Rattle.stream.proofs.tail.absorb.Statement.{statement}
@@ -52,32 +51,31 @@ part-tail-joined-start : tie.Need-part-tail-joined-start
 part-tail-joined-start c = search needs
 
 part-tail-joined-end : tie.Need-part-tail-joined-end
-part-tail-joined-end c = let start = c .before .before .before .before .before .before .before .before .before .before .before .before in omega (arith, tail-length start, piece-of start, start .pre)
+part-tail-joined-end c = let start = c .before .before .before .before .before .before .before .before .before .before .before in omega (arith, tail-length start, piece-of start, start .pre)
 
 mul-tail-joined : tie.Need-mul-tail-joined
-mul-tail-joined c = let start = c .before .before .before .before .before .before .before .before .before .before .before .before .before in omega (arith, piece-of start, start .pre, c .before .before .before .before .before .before .before .before .before .before .tail-len .ensures)
+mul-tail-joined c = let start = c .before .before .before .before .before .before .before .before .before .before .before .before in omega (arith, piece-of start, start .pre, c .before .before .before .before .before .before .before .before .before .tail-len .ensures)
 
 tail-joined-requires : tie.Need-tail-joined-requires
 tail-joined-requires c κs =
-    let start = c .before .before .before .before .before .before .before .before .before .before .before .before .before in (
-      simp length-take (omega (arith, tail-length start, piece-of start, start .pre, c .before .before .before .before .before .before .before .before .before .before .tail-len .ensures)),
-      omega (arith, piece-of start, c .before .before .before .before .before .before .before .before .before .before .tail-len .ensures),
+    let start = c .before .before .before .before .before .before .before .before .before .before .before .before in (
+      simp length-take (omega (arith, tail-length start, piece-of start, start .pre, c .before .before .before .before .before .before .before .before .before .tail-len .ensures)),
+      omega (arith, piece-of start, c .before .before .before .before .before .before .before .before .before .tail-len .ensures),
     )
 
 returns : tie.Need-returns
 unfolding addedWork
 returns c =
-    let start = c .before .before .before .before .before .before .before .before .before .before .before .before .before .before in
+    let start = c .before .before .before .before .before .before .before .before .before .before .before .before .before in
     let s = start .args .s in
     let text = start .args .piece .now in
-    let left = c .before .before .before .before .before .before .before .before .before .before .before .tail-len in
+    let left = c .before .before .before .before .before .before .before .before .before .before .tail-len in
     let count : (s .«tail_len» + length text - left .result) / 16 ≡ leavingBlocks s (length text) = omega (arith, piece-of start, start .pre, left .ensures) in
     let used : s .«tail_len» - 0 ≡ tailLength (s .total) = omega (arith, start .pre) in
-    let chained = c .before .before .before .before .chain-text .ensures in
+    let chained = c .before .before .before .chain-text .ensures in
     record {
-      outcome = ap (success 0) (chained .work ∙ ap chainWork count);
       state = absorbed s text (left .ensures) count used (chained .block) (c .tail-joined .ensures);
-      output = refl;
+      work = chained .work ∙ ap chainWork count;
     }
 
 pub absorb-spec : {M : Type 1} → statement M
