@@ -49,14 +49,14 @@ pub(crate) fn begun(made: Made, stage: u8, v: Block) -> Step
     if let Answer::Refused(_) = answer {
         return Step {
             answer,
-            work: 0,
             state: work::ended(),
+            work: 0,
         };
     }
     Step {
         answer: Answer::Ok(0),
-        work: made.work,
         state: start(head, stage, v),
+        work: made.work,
     }
 }
 
@@ -67,13 +67,13 @@ pub(crate) fn untagged(before: Answer) -> Step
     if let Answer::Refused(_) = before {
         return Step {
             answer: before,
-            work: 0,
             state: work::ended(),
+            work: 0,
         };
     }
     Step {
         answer: Answer::Refused(Refusal::SealedLength),
-        work: 0,
         state: work::ended(),
+        work: 0,
     }
 }

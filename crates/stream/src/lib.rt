@@ -100,8 +100,8 @@ impl Stream {
         if let Answer::Refused(_) = answer {
             return Step {
                 answer,
-                work: 0,
                 state: self,
+                work: 0,
             };
         }
         let absorbed = tail::absorb(self, piece);
@@ -127,8 +127,8 @@ impl Stream {
         if let Answer::Refused(_) = answer {
             return Step {
                 answer,
-                work: 0,
                 state: self,
+                work: 0,
             };
         }
         let tag = work::tag_of_state(self);
@@ -138,8 +138,8 @@ impl Stream {
         self.v = v;
         Step {
             answer: Answer::Ok(Self::TAG_LEN),
-            work: tag.work,
             state: self,
+            work: tag.work,
         }
     }
 
@@ -152,8 +152,8 @@ impl Stream {
         if let Answer::Refused(_) = answer {
             return Step {
                 answer,
-                work: 0,
                 state: self,
+                work: 0,
             };
         }
         let end = work::stream_at(self, self.written, piece, output, 0);
@@ -162,8 +162,8 @@ impl Stream {
         self.written = self.written + n;
         Step {
             answer: Answer::Ok(n),
-            work: end.work,
             state: self,
+            work: end.work,
         }
     }
 
@@ -174,14 +174,14 @@ impl Stream {
         if judge::closes(self) {
             return Step {
                 answer: Answer::Ok(0),
-                work: 0,
                 state: work::ended(),
+                work: 0,
             };
         }
         Step {
             answer: Answer::Refused(Refusal::State),
-            work: 0,
             state: self,
+            work: 0,
         }
     }
 
@@ -194,8 +194,8 @@ impl Stream {
         if let Answer::Refused(_) = answer {
             return Step {
                 answer,
-                work: 0,
                 state: self,
+                work: 0,
             };
         }
         let at = self.total;
@@ -225,8 +225,8 @@ impl Stream {
         if let Answer::Refused(_) = answer {
             return Step {
                 answer,
-                work: 0,
                 state: self,
+                work: 0,
             };
         }
         let total = self.total;
@@ -236,15 +236,15 @@ impl Stream {
         if octets::same_block(t, v) {
             return Step {
                 answer: Answer::Ok(total),
-                work: tag.work,
                 state: work::ended(),
+                work: tag.work,
             };
         }
         octets::zero_at(output, 0, total);
         Step {
             answer: Answer::Refused(Refusal::Forged),
-            work: tag.work,
             state: work::ended(),
+            work: tag.work,
         }
     }
 }
