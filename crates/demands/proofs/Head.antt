@@ -44,8 +44,8 @@ pub begun-work : (key bytes lens : List ℕ) (start : Start) (begin : Begin) →
     → begun key bytes lens start begin .outcome .work ≡ beginWork lens start
 begun-work key bytes lens undivided sealer e = ap (λ (r : StepResult). r .outcome .work) (answers-or-first-refusal .beginningSealer key bytes lens .done e)
 begun-work key bytes lens undivided (opener T) e = ap (λ (r : StepResult). r .outcome .work) (answers-or-first-refusal .beginningOpener key bytes lens T .done e)
-begun-work key bytes lens (divided n) sealer e = ap (λ (r : StepResult). r .outcome .work) (answers-or-first-refusal .beginningSealerFrom _ _ (drop n lens) .done e)
-begun-work key bytes lens (divided n) (opener T) e = ap (λ (r : StepResult). r .outcome .work) (answers-or-first-refusal .beginningOpenerFrom _ _ (drop n lens) T .done e)
+begun-work key bytes lens (divided n) sealer e = ap (λ (r : StepResult). r .outcome .work) (answers-or-first-refusal .beginningSealerFrom _ _ _ .done e)
+begun-work key bytes lens (divided n) (opener T) e = ap (λ (r : StepResult). r .outcome .work) (answers-or-first-refusal .beginningOpenerFrom _ _ _ T .done e)
 
 -- and what follows it
 module _ (key bytes lens more moreLens : List ℕ) (a : Admits key bytes lens) where

@@ -115,7 +115,7 @@ module _ (key bytes lens shared : List ℕ) (a : Admits key bytes lens) where
   pub model-wrong : (begin : Begin) (b : ModelState) (c : Call) → eqb (b .stage) (wants c) ≡ false
       → modelStep key bytes lens begin shared b c ≡ refusedAfter begin b c 9
   unfolding modelStep
-  model-wrong begin b c e = simp e
+  model-wrong begin b c e = simp e refl
 
   pub known-shown : (begin : Begin) (b : ModelState) (s : Stream) (o : List ℕ) → Known key bytes lens shared begin b s o → o ≡ shown key bytes lens begin shared b
   known-shown begin b s o (adding A l) = refl
@@ -169,7 +169,7 @@ module _ (key bytes lens shared : List ℕ) (a : Admits key bytes lens) where
         total : length (A ++ piece) ≡ length A + length piece
         total = length-append A piece
 
-        work : addedWork S (length piece) ≡ chained (length (A ++ piece)) - chained (length A)
+        work : addedWork S (length piece) ≡ workAfter key bytes lens sealer shared b (add piece)
         work = join-work key ss 1 zeros zeros 0 A (length piece) ∙ ap (λ (n : ℕ). chained n - chained (length A)) (sym total)
 
         go : (t : Bool) → ltb limit (length A + length piece) ≡ t → Steps sealer (modelOf 1 A []) (addingState key (strings bytes lens) A) shared (add piece)
@@ -184,7 +184,7 @@ module _ (key bytes lens shared : List ℕ) (a : Admits key bytes lens) where
     turn-step output = go (ltb (length output) 16) refl
       where
         go : (t : Bool) → ltb (length output) 16 ≡ t → Steps sealer (modelOf 1 A []) (addingState key (strings bytes lens) A) shared (turn output)
-        go true e = steps sealer b S shared (turn output) (refusedStep 6 S output) (refusedAfter sealer b (turn output) 6) (simp (fitting, e)) (simp e) refl (adding A within)
+        go true e = steps sealer b S shared (turn output) (refusedStep 6 S output) (refusedAfter sealer b (turn output) 6) (simp (fitting, e)) (simp e refl) refl (adding A within)
         go false e =
             let v : List ℕ = tagOf key ss A in
             let none : begunBlock (aes (ctrKey key)) v 0 ≡ zeros = begun-zero (aes (ctrKey key)) v in
@@ -223,7 +223,7 @@ module _ (key bytes lens shared : List ℕ) (a : Admits key bytes lens) where
         text : streamedAt SW (length W) piece ≡ drop (length W) (streamed key v (W ++ piece))
         text = stream-state key ss (a .keyed) 2 v (length W) A (length W) piece ∙ sym (streamed-rest key v W piece)
 
-        work : pieceWork (length W) (length piece) ≡ sixteenths (length (W ++ piece)) - sixteenths (length W)
+        work : pieceWork (length W) (length piece) ≡ workAfter key bytes lens sealer shared bW (write piece output)
         work = piece-work (length W) (length piece) ∙ ap (λ (n : ℕ). sixteenths n - sixteenths (length W)) (sym total)
 
         state : wrote SW (length piece) ≡ writingState key ss A (W ++ piece)
@@ -253,7 +253,7 @@ module _ (key bytes lens shared : List ℕ) (a : Admits key bytes lens) where
     close-step = go (ltb (length W) (length A)) refl
       where
         go : (t : Bool) → ltb (length W) (length A) ≡ t → Steps sealer (modelOf 2 A W) (writingState key (strings bytes lens) A W) shared close
-        go true e = steps sealer bW SW shared close (refusedStep 9 SW []) (refusedAfter sealer bW close 9) (simp (fittingW, e)) (simp e) refl (writing A W within shorter)
+        go true e = steps sealer bW SW shared close (refusedStep 9 SW []) (refusedAfter sealer bW close 9) (simp (fittingW, e)) (simp e refl) refl (writing A W within shorter)
         go false e = steps sealer bW SW shared close (doneStep 0 0 ended []) (doneAfter sealer bW close 0) (simp (fittingW, e)) (simp e) refl (closed A W)
 
   -- ---- the opener's calls in the stage that they want
@@ -310,8 +310,7 @@ module _ (key bytes lens shared : List ℕ) (a : Admits key bytes lens) where
             ∙ ap (λ (n : ℕ). stateOf key ss 3 T (begunBlock (aes (ctrKey key)) T n) 0 (P ++ streamedAt SF (length P) piece)) count
             ∙ ap (feedingState key ss T) joined
 
-        work : pieceWork (length P) (length piece) + addedWork SF (length piece)
-            ≡ (sixteenths (length (A ++ piece)) - sixteenths (length A)) + (chained (length (A ++ piece)) - chained (length A))
+        work : pieceWork (length P) (length piece) + addedWork SF (length piece) ≡ workAfter key bytes lens (opener T) shared bF (feed piece)
         work =
             ap₂ _+_ (piece-work (length P) (length piece)) (join-work key ss 3 T (begunBlock (aes (ctrKey key)) T (length P)) 0 P (length piece))
             ∙ ap (λ (n : ℕ). (sixteenths (n + length piece) - sixteenths n) + (chained (n + length piece) - chained n)) long
@@ -395,7 +394,7 @@ module _ (key bytes lens shared : List ℕ) (a : Admits key bytes lens) where
     unfolding finishStep modelStep SF ss bF P o
     finish-step = go (genuine key (strings bytes lens) (T ++ A)) genuine-fed accepts-genuine
       where
-        verdict : tagOfStateWork SF ≡ blocksOf (length A) - chained (length A)
+        verdict : tagOfStateWork SF ≡ workAfter key bytes lens (opener T) shared bF finish
         verdict = tag-state-work key ss (a .keyed) 3 T (begunBlock (aes (ctrKey key)) T (length P)) 0 P ∙ ap (λ (n : ℕ). blocksOf n - chained n) long
 
         go : (t : Bool) → same (tagOfState SF) T ≡ t → wholeAccepts key bytes lens T A ≡ t
@@ -408,9 +407,9 @@ module _ (key bytes lens shared : List ℕ) (a : Admits key bytes lens) where
             ∙ ap (λ (w : ℕ). record { outcome = success (length A) w; output = shown key bytes lens (opener T) shared (modelOf 0 A []) }) verdict)
             (finished T A o last)
         go false g h =
-            let last : put o 0 (replicate (length P) 0) ≡ shown key bytes lens (opener T) shared (modelOf 0 A []) =
+            let last : put o 0 (replicate (length P) 0) ≡ shown key bytes lens (opener T) shared (modelAfter key bytes lens (opener T) shared bF finish) =
             wiped ∙ ap (put shared 0) (sym (ap (λ (t : Bool). cond t (opened key (T ++ A)) (replicate (length A) 0)) h)) in
-            steps (opener T) bF SF o finish (forgedStep SF o) (doneAfter (opener T) bF finish 8) (simp (fittingF, enough, g)) (simp h)
+            steps (opener T) bF SF o finish (forgedStep SF o) (doneAfter (opener T) bF finish 8) (simp (fittingF, enough, g)) (simp h refl)
             (ap₂ (λ (w : ℕ) (x : List ℕ). record { outcome = forged w; output = x }) verdict last)
             (finished T A (put o 0 (replicate (length P) 0)) last)
 

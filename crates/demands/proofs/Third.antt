@@ -118,7 +118,7 @@ module _ (key bytes lens : List ℕ) (a : Admits key bytes lens) where
         → modelRun key bytes lens begin shared (fresh begin) (onePiece b) .model ≡ b
     unfolding modelStep
     one-model begin b s o (adding A l) z = simp (le-ltb limit (length A) l)
-    one-model begin b s o (writing A W l w) z = simp (le-ltb limit (length A) l, le-ltb (length A) (length W) w, le-ltb (length W) (length W) (omega arith))
+    one-model begin b s o (writing A W l w) z = simp (le-ltb limit (length A) l, le-ltb (length A) (length W) w, le-ltb (length W) (length W) (omega arith)) refl
     one-model begin b s o (closed A W) z = absurd (true≢false z)
     one-model begin b s o (feeding T A t l r) z = simp (le-ltb limit (length A) l, le-ltb (length shared) (length A) r)
     one-model begin b s o (finished T A _ e) z = absurd (true≢false z)
