@@ -8,12 +8,12 @@ use native.Mathlib.Nat.{add-zero, add-suc, add-assoc}
 use native.Mathlib.Decide.{ℕ-discrete, decLe}
 use native.Mathlib.Omega.{arith}
 use lib.Dec.{eqb}
-use lib.ListN.{length, take, drop, replicate, length-append, length-drop, take-append-drop}
+use lib.ListN.{length, take, drop, length-append, length-drop, take-append-drop}
 use lib.Seq.{take-all, take-take, take-append-le, drop-drop, drop-at, drop-append-le, drop-append-add, length-take-le}
 use borrow.Author.Tests.{eq-eqb, ne-eqb}
 use Rattle.octets.specs.Octets.{xors}
 use Rattle.octets.proofs.Strings.{length-xors, xors-undo, xors-append, take-xors, drop-take}
-use Rattle.ctr.specs.Counter.{clear, plus, blocksBegun, streamBlocks, streamWork, keyStream, keyStreamWork, xorStream, begunBlock, leftOver, newBlocks, atHand, pieceWork, xorPiece, keptAfter}
+use Rattle.ctr.specs.Counter.{clear, plus, blocksBegun, streamBlocks, streamWork, keyStream, keyStreamWork, xorStream, noBlock, begunBlock, leftOver, newBlocks, atHand, pieceWork, xorPiece, keptAfter}
 
 -- ---- strings
 
@@ -151,6 +151,11 @@ pieceWork-beyond place n h =
     let count : newBlocks place n ≡ blocksBegun (n - leftOver place) = omega arith in
     ap streamWork count
 
+pub pieceWork-fresh : (i n : ℕ) → pieceWork (16 * i) n ≡ keyStreamWork n
+pieceWork-fresh i n =
+    let all : n - leftOver (16 * i) ≡ n = omega arith in
+    pieceWork-beyond (16 * i) n (omega arith) ∙ ap keyStreamWork all
+
 module _ (E : List ℕ → List ℕ) (v : List ℕ) where
   -- n bytes that end within a block begin that one
   begunBlock-one : (n : ℕ) → (n % 16 ≡ 0 → ⊥) → begunBlock E v n ≡ E (plus (clear v) (n / 16))
@@ -158,7 +163,7 @@ module _ (E : List ℕ → List ℕ) (v : List ℕ) where
   begunBlock-one n e = simp (ne-eqb (n % 16) 0 e)
 
   -- n bytes from block i on that are whole blocks
-  pub begunBlock-whole : (i n : ℕ) → n % 16 ≡ 0 → replicate 16 0 ≡ begunBlock E v (16 * i + n)
+  pub begunBlock-whole : (i n : ℕ) → n % 16 ≡ 0 → noBlock ≡ begunBlock E v (16 * i + n)
   unfolding begunBlock
   begunBlock-whole i n e =
       let end : (16 * i + n) % 16 ≡ 0 = omega arith in
@@ -171,11 +176,11 @@ module _ (E : List ℕ → List ℕ) (v : List ℕ) where
       e ∙ ap (λ (k : ℕ). E (plus (clear v) k)) place ∙ sym (begunBlock-one (16 * i + n) (λ z. some (omega arith)))
 
   -- to keep b where n bytes end within a block is to keep the begun one, if b is that block
-  begunBlock-as : (n : ℕ) (b : List ℕ) → ((n % 16 ≡ 0 → ⊥) → b ≡ E (plus (clear v) (n / 16))) → cond (eqb (n % 16) 0) (replicate 16 0) b ≡ begunBlock E v n
+  begunBlock-as : (n : ℕ) (b : List ℕ) → ((n % 16 ≡ 0 → ⊥) → b ≡ E (plus (clear v) (n / 16))) → cond (eqb (n % 16) 0) noBlock b ≡ begunBlock E v n
   unfolding begunBlock
   begunBlock-as n b e = go (ℕ-discrete (n % 16) 0)
     where
-      go : Dec (n % 16 ≡ 0) → cond (eqb (n % 16) 0) (replicate 16 0) b ≡ begunBlock E v n
+      go : Dec (n % 16 ≡ 0) → cond (eqb (n % 16) 0) noBlock b ≡ begunBlock E v n
       go (yes z) = simp (eq-eqb (n % 16) 0 z)
       go (no z) = simp (ne-eqb (n % 16) 0 z) (e z)
 
@@ -197,17 +202,17 @@ module _ (E : List ℕ → List ℕ) (v : List ℕ) where
 
   -- and that one stays, unless it is used up
   pub keptAfter-within : (kept : List ℕ) (place n : ℕ) → n ≤ leftOver place
-      → keptAfter E v kept place n ≡ cond (eqb ((place + n) % 16) 0) (replicate 16 0) kept
+      → keptAfter E v kept place n ≡ cond (eqb ((place + n) % 16) 0) noBlock kept
   unfolding keptAfter
   keptAfter-within kept place n h =
-      ap₂ (λ (m : ℕ) (l : List ℕ). cond (eqb ((place + n) % 16) 0) (replicate 16 0) (drop (16 * m) l)) (newBlocks-none place n h) (atHand-within kept place n h)
+      ap₂ (λ (m : ℕ) (l : List ℕ). cond (eqb ((place + n) % 16) 0) noBlock (drop (16 * m) l)) (newBlocks-none place n h) (atHand-within kept place n h)
 
 module _ (E : List ℕ → List ℕ) (sized : (b : List ℕ) → length (E b) ≡ 16) (v : List ℕ) where
   pub length-begunBlock : (n : ℕ) → length (begunBlock E v n) ≡ 16
   unfolding begunBlock
   length-begunBlock n = go (eqb (n % 16) 0)
     where
-      go : (b : Bool) → length (cond b (replicate 16 0) (E (plus (clear v) (n / 16)))) ≡ 16
+      go : (b : Bool) → length (cond b noBlock (E (plus (clear v) (n / 16)))) ≡ 16
       go true = refl
       go false = sized (plus (clear v) (n / 16))
 
@@ -243,6 +248,19 @@ module _ (E : List ℕ → List ℕ) (sized : (b : List ℕ) → length (E b) �
       ∙ ap (drop (16 * suc m)) (sym (append-assoc kept (streamBlocks E v i m) B))
       ∙ drop-at (kept ++ streamBlocks E v i m) B (16 * suc m) (length-append kept (streamBlocks E v i m) ∙ omega (arith, length-streamBlocks E sized v i m))
       ∙ ap (λ (k : ℕ). E (plus (clear v) k)) last)
+
+  -- where no block is kept, a piece from block i on is xored with the key stream, and its end's block is kept
+  pub xorPiece-fresh : (i : ℕ) (s : List ℕ) → xorPiece E v noBlock (16 * i) s ≡ xorStream E v (16 * i) s
+  unfolding xors
+  xorPiece-fresh i s =
+      let none : leftOver (16 * i) ≡ 0 = omega arith in
+      let place : 16 * i + 0 ≡ 16 * i = omega arith in
+      xorPiece-beyond noBlock (16 * i) s refl (omega arith)
+      ∙ ap (λ (m : ℕ). xors (take m s) (drop (16 * i % 16) noBlock) ++ xorStream E v (16 * i + m) (drop m s)) none
+      ∙ ap (λ (p : ℕ). xorStream E v p s) place
+
+  pub keptAfter-fresh : (i n : ℕ) → keptAfter E v noBlock (16 * i) n ≡ begunBlock E v (16 * i + n)
+  keptAfter-fresh i n = keptAfter-beyond noBlock (16 * i) n refl (omega arith)
 
   -- a piece within the block that its place begins
   begunBlock-own : (place : ℕ) (s : List ℕ) → length s ≤ leftOver place → xors s (drop (place % 16) (begunBlock E v place)) ≡ xorStream E v place s

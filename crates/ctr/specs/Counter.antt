@@ -51,11 +51,15 @@ xorStream E v place s = xors s (drop place (keyStream E v (place + length s)))
 
 -- ---- a key stream that is used piece by piece: the block that a piece begins and does not use up is kept for the next one
 
--- the block that the first n bytes begin and do not use up, or zeros where they use up what they begin
-unfoldable pub begunBlock : (List ℕ → List ℕ) → List ℕ → ℕ → List ℕ
-begunBlock E v n = cond (eqb (n % 16) 0) (replicate 16 0) (E (plus (clear v) (n / 16)))
+-- what is kept where no block is begun
+abbrev pub noBlock : List ℕ
+noBlock = replicate 16 0
 
--- how many bytes of it are left
+-- the key stream's own block that its first n bytes begin and do not use up: it says which one that is, wherever it was made, and has no work
+unfoldable pub begunBlock : (List ℕ → List ℕ) → List ℕ → ℕ → List ℕ
+begunBlock E v n = cond (eqb (n % 16) 0) noBlock (E (plus (clear v) (n / 16)))
+
+-- how many bytes of that block are left
 abbrev pub leftOver : ℕ → ℕ
 leftOver n = 16 * blocksBegun n - n
 
@@ -74,7 +78,7 @@ pieceWork place n = streamWork (newBlocks place n)
 unfoldable pub xorPiece : (List ℕ → List ℕ) → List ℕ → List ℕ → ℕ → List ℕ → List ℕ
 xorPiece E v kept place s = xors s (drop (16 - leftOver place) (atHand E v kept place (length s)))
 
--- the block that is kept then: the last at hand, or zeros where it is used up
+-- the block that is kept then: the last at hand, unless it is used up
 unfoldable pub keptAfter : (List ℕ → List ℕ) → List ℕ → List ℕ → ℕ → ℕ → List ℕ
 keptAfter E v kept place n =
-    cond (eqb ((place + n) % 16) 0) (replicate 16 0) (drop (16 * newBlocks place n) (atHand E v kept place n))
+    cond (eqb ((place + n) % 16) 0) noBlock (drop (16 * newBlocks place n) (atHand E v kept place n))

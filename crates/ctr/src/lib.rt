@@ -4,7 +4,7 @@ ghost use Prim.Native.Nat.{_+_, _*_, _^_, _≤_, min};
 ghost use lib.ListN.{length, take};
 ghost use mathlib.Core.List.{[], _∷_, _++_};
 ghost use Rattle.octets.specs.Octets.{entries, put};
-ghost use Rattle.ctr.specs.Counter.{number, bytesOfNumber, clear, plus, streamWork, keyStreamWork, xorStream, begunBlock, leftOver};
+ghost use Rattle.ctr.specs.Counter.{number, bytesOfNumber, clear, plus, streamWork, xorStream, noBlock, leftOver, pieceWork, xorPiece, keptAfter};
 ghost use Rattle.aes.specs.Cipher.{cipher};
 ghost use Rattle.aes.specs.Engine.{Ready};
 ghost use Rattle.aes.specs.Work.{Reports};
@@ -89,7 +89,7 @@ pub fn plus(q: Block, i: u64) -> Block
 }
 
 // Writes src, of at most 16 bytes, xored with block i of the key stream, at place at of a slice; gives the block.
-fn xor_piece(
+fn xor_with_block(
     engine: &Engine,
     width: usize,
     keys: &RoundKeys,
@@ -128,7 +128,7 @@ fn xor_blocks(
     let mut work = 0;
     let mut j = 0;
     while j < n {
-        let made = xor_piece(
+        let made = xor_with_block(
             engine,
             width,
             keys,
@@ -144,7 +144,7 @@ fn xor_blocks(
     work
 }
 
-// Writes src, xored with the key stream from block i on, at place at of a slice: whole blocks, then the short end. Gives the block that the end begins, and the work.
+// Writes src, xored with the key stream from block i on, at place at of a slice: whole blocks, then the short end. Gives the block that the end begins, zeros where it is whole, and the work.
 pub fn xor_from(
     engine: &Engine,
     width: usize,
@@ -156,8 +156,8 @@ pub fn xor_from(
     at: usize,
 ) -> Counted
     requires { ⌜ Ready (now engine) × (width ≤ 32) × (i ≤ 2 ^ 61) × (at + length (now src) ≤ length (now dst)) ⌝ }
-    ensures kept { λ r. ⌜ Reports (begunBlock (cipher width (now (keys .entry))) v (16 * i + length (now (src .entry)))) (keyStreamWork (length (now (src .entry)))) r ⌝ }
-    ensures text { λ _. ⌜ now (dst .exit) ≡ put (now (dst .entry)) at (xorStream (cipher width (now (keys .entry))) v (16 * i) (now (src .entry))) ⌝ }
+    ensures kept { λ r. ⌜ Reports (keptAfter (cipher width (now (keys .entry))) v noBlock (16 * i) (length (now (src .entry)))) (pieceWork (16 * i) (length (now (src .entry)))) r ⌝ }
+    ensures text { λ _. ⌜ now (dst .exit) ≡ put (now (dst .entry)) at (xorPiece (cipher width (now (keys .entry))) v noBlock (16 * i) (now (src .entry))) ⌝ }
 {
     let n = src.len() / 16;
     let whole = xor_blocks(engine, width, keys, v, i, n, src, dst, at);
@@ -167,7 +167,7 @@ pub fn xor_from(
             work: whole,
         };
     }
-    let end = xor_piece(
+    let end = xor_with_block(
         engine,
         width,
         keys,

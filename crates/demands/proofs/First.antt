@@ -32,6 +32,7 @@ use Rattle.stream.specs.Steps.{StepResult, doneStep, refusedStep, settle, tagRo
 use Rattle.kinphlor.specs.Interface.{aeadLens, emptyNonce, fromC}
 use Rattle.demands.specs.First.{order, keeps, FirstDue, none, here, later, FirstSeal, FirstOpen, rowsFromC, FirstFromC, noSlot, FirstRing, restTable, FirstHead, FirstStep, FirstFinish, First}
 use Rattle.demands.proofs.Parts.{from-c-parts, ring-parts}
+use Rattle.demands.proofs.Pieces.{piece-work, added-work}
 use Rattle.demands.proofs.Slots.{chosen-noSlot, ring-comes-from-c}
 
 -- `first` takes the first row that is due
@@ -269,6 +270,12 @@ by-table table done s output k z =
       refused = λ n e. t .refused n (sym (t .number) ∙ e);
     }
 
+-- a call on a state, whose work is told from lengths
+by-lengths : (table : List Row) (n w w′ : ℕ) (next s : Stream) (last output : List ℕ) → keeps order table ≡ true → w ≡ w′
+    → FirstStep table (settle (first table) (doneStep n w next last) s output) (doneStep n w′ next last) s output
+by-lengths table n w w′ next s last output k works =
+    subst (λ (m : ℕ). FirstStep table (settle (first table) (doneStep n w next last) s output) (doneStep n m next last) s output) works (by-table table _ s output k refl)
+
 -- a begin, whose work is told from lengths
 by-begin : (table : List Row) (w w′ : ℕ) (h : Head) (stage : ℕ) (v : List ℕ) → keeps order table ≡ true → (first table ≡ 0 → w ≡ w′)
     → FirstStep table (beginBy (first table) w h stage v) (doneStep 0 w′ (start h stage v) []) ended []
@@ -368,11 +375,11 @@ answers-or-first-refusal =
       beginningSealerFrom = λ h bytes lens. by-begin _ _ _ (extended h (strings bytes lens)) 1 zeros (rest-ordered h lens (length bytes)) (rest-work h bytes lens);
       beginningOpenerFrom = λ h bytes lens tag.
           by-begin _ _ _ (extended h (strings bytes lens)) 3 tag (rest-tag-ordered h lens (length bytes) (length tag)) (λ e. rest-work h bytes lens (first-none (restRows h lens (length bytes)) (tagRows (length tag)) refl e .0));
-      adding = λ s piece. by-table _ _ _ _ refl refl;
+      adding = λ s piece. by-lengths _ _ _ _ _ _ _ _ refl (added-work s (length piece));
       turning = λ s output. by-table _ _ _ _ refl refl;
-      writing = λ s piece output. by-table _ _ _ _ refl refl;
+      writing = λ s piece output. by-lengths _ _ _ _ _ _ _ _ refl (piece-work (s .written) (length piece));
       closing = λ s. by-table _ _ _ _ refl refl;
-      feeding = λ s piece output. by-table _ _ _ _ refl refl;
+      feeding = λ s piece output. by-lengths _ _ _ _ _ _ _ _ refl (ap₂ _+_ (piece-work (s .total) (length piece)) (added-work s (length piece)));
       finishing = finishing;
       outcomeTells = outcome-tells;
     }

@@ -77,6 +77,10 @@ passed-chained n = go (decLt n 16)
     go (yes h) = let e : tailLength n ≡ n = tail-short n h in omega arith
     go (no h) = let e : tailLength n ≡ 16 + n % 16 = tail-long n (omega arith) in omega arith
 
+pub added-work : (s : Stream) (n : ℕ) → addedWork s n ≡ chained (s .total + n) - chained (s .total)
+unfolding addedWork
+added-work s n = chain-work _ ∙ ap₂ _-_ (passed-chained (s .total + n)) (passed-chained (s .total))
+
 left : (n : ℕ) → blocksOf (tailLength n) ≡ blocksOf n - chained n
 left n = go (decLt n 16)
   where
@@ -159,8 +163,7 @@ module _ (key : List ℕ) (ss : List (List ℕ)) where
 
     -- its work is that of the blocks that join the chain
     pub join-work : (n : ℕ) → addedWork (stateOf stage v kept written A) n ≡ chained (length A + n) - chained (length A)
-    unfolding addedWork
-    join-work n = chain-work _ ∙ ap₂ _-_ (passed-chained (length A + n)) (passed-chained (length A))
+    join-work n = added-work (stateOf stage v kept written A) n
 
     unused : allZero (drop (tailLength (length A)) (stateOf stage v kept written A .tail)) ≡ true
     unfolding before

@@ -124,7 +124,7 @@ module _ (key bytes lens shared : List ℕ) (a : Admits key bytes lens) where
   known-shown begin b s o (feeding T A t l r) = refl
   known-shown begin b s o (finished T A _ e) = e
 
-  known-stage : (begin : Begin) (b : ModelState) (s : Stream) (o : List ℕ) → Known key bytes lens shared begin b s o → s .stage ≡ b .stage
+  pub known-stage : (begin : Begin) (b : ModelState) (s : Stream) (o : List ℕ) → Known key bytes lens shared begin b s o → s .stage ≡ b .stage
   known-stage begin b s o (adding A l) = refl
   known-stage begin b s o (writing A W l w) = refl
   known-stage begin b s o (closed A W) = refl

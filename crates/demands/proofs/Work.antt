@@ -1,35 +1,36 @@
 -- Slip 5's promises hold: calls report what was planned, the answers of a list add up, and the kept block is the key stream's own.
 -- Assumes nothing.
-use mathlib.Core.Path.{_≡_, refl, ap, ap₂, sym, subst, _∙_}
-use mathlib.Core.Bool.{Bool, true, false, not, cond, and-false, _&&_, _||_}
+use mathlib.Core.Path.{_≡_, refl, ap, ap₂, sym, _∙_}
+use mathlib.Core.Bool.{Bool, true, false, not, cond, and-false, true≢false, _&&_, _||_}
 use mathlib.Core.List.{List, [], _∷_, _++_}
 use Prim.Native.Nat.{ℕ, _+_, _-_, _%_, _≤_}
 use native.Mathlib.Nat.{zero-add}
 use native.Mathlib.Omega.{arith}
 use lib.Dec.{eqb, ltb}
 use lib.ListN.{length, take, drop, length-append, take-append-drop}
-use borrow.Author.Tests.{eq-eqb, le-ltb, ltb-false}
+use borrow.Author.Tests.{eq-eqb, ne-eqb, le-ltb, ltb-false}
 use Rattle.aes.specs.Aes.{isWidth, aes}
 use Rattle.s2v.specs.S2v.{tailLength}
-use Rattle.ctr.specs.Counter.{begunBlock}
-use Rattle.siv.specs.Answer.{Outcome, withoutLength}
+use Rattle.octets.specs.Octets.{put, same}
+use Rattle.ctr.specs.Counter.{begunBlock, pieceWork}
+use Rattle.siv.specs.Answer.{Outcome, Row, row, first, success, withoutLength}
 use Rattle.siv.specs.Calls.{CallResult, isKeyLength, limit, sealTable, sealNumber, sealCall, openNumber, openCall}
 use Rattle.siv.specs.Siv.{ctrKey}
 use Rattle.siv.specs.Work.{sixteenths, blocksOf, blocksOfAll, blockWork, plannedWork}
 use Rattle.siv.proofs.Laws.{first-not, seal-admits, open-admits, open-passed, open-forged, length-streamed}
 use Rattle.siv.proofs.Lengths.{blocks-append}
 use Rattle.stream.specs.declared.Stream.{Stream}
-use Rattle.stream.specs.State.{allZero, writtenLimit, streamPlace, keptFits, fits}
-use Rattle.stream.specs.Steps.{StepResult}
+use Rattle.stream.specs.State.{ended, allZero, writtenLimit, streamPlace, keptFits, fits, added, addedWork, tagOfState, tagOfStateWork, streamedAt, streamedWith}
+use Rattle.stream.specs.Steps.{doneStep, refusedStep, settle, addStep, turned, turnStep, wrote, writeStep, closeStep, deciphered, feedStep, finishTable, forgedStep, finishStep}
 use Rattle.kinphlor.specs.Interface.{aeadLens, emptyNonce, fromC, sealFromC, openFromC, plannedFromC}
 use Rattle.demands.specs.Model.{ModelState, fresh, wants, chained, After, wholeAccepts, modelStep, modelRun}
-use Rattle.demands.specs.Run.{Begin, sealer, opener, Start, undivided, divided, Call, add, turn, write, close, feed, finish, begun, firstHead, Entry, run}
+use Rattle.demands.specs.Run.{Begin, sealer, opener, Start, undivided, divided, Call, add, turn, write, close, feed, finish, begun, call}
 use Rattle.demands.specs.Third.{beginWork, AsModel}
 use Rattle.demands.specs.Whole.{Admits}
 use Rattle.demands.specs.Work.{Reported, workOf, headWork, AddsUp, ownBlock, BlockWork}
 use Rattle.demands.proofs.First.{answers-or-first-refusal}
 use Rattle.demands.proofs.Head.{divided-as-undivided}
-use Rattle.demands.proofs.Steps.{modelOf, Known, adding, writing, closed, feeding, finished, call-misfit, model-wrong, unwanted, step}
+use Rattle.demands.proofs.Steps.{modelOf, Known, adding, writing, closed, feeding, finished, known-stage, call-misfit, model-wrong, unwanted, step}
 use Rattle.demands.proofs.Third.{runs, sealer-known, opener-known, accepts-the-sealed-and-follows-the-model}
 
 -- ---- planning
@@ -213,6 +214,7 @@ module _ (key bytes lens shared : List ℕ) (a : Admits key bytes lens) where
       → Known key bytes lens shared begin (fresh begin) (begun key bytes lens start begin .state) shared → AddsUp key bytes lens begin shared calls start
   adds-up begin calls start m k ended =
       let b = modelRun key bytes lens begin shared (fresh begin) calls .model in
+      let last = runs key bytes lens a shared begin calls (fresh begin) _ shared k .1 in
       omega (
         arith,
         begin-adds start,
@@ -220,7 +222,7 @@ module _ (key bytes lens shared : List ℕ) (a : Admits key bytes lens) where
         ap workOf (m .entries),
         all-add begin calls (fresh begin) _ shared k,
         none-yet begin,
-        at-end begin b ended,
+        at-end begin b (sym (known-stage key bytes lens shared a begin b _ _ last) ∙ ended),
       )
 
   -- ---- the kept block
@@ -241,6 +243,64 @@ misfit wanted s whole some =
     ap (λ (t : Bool). before && t && allZero (drop (tailLength (s .total)) (s .tail))) (ap₂ (λ (t u : Bool). not t || u) (eq-eqb (streamPlace wanted s % 16) 0 whole) some)
     ∙ ap (λ (t : Bool). t && allZero (drop (tailLength (s .total)) (s .tail))) (and-false before)
 
+-- where it may be any, it decides nothing
+any-fits : (wanted : ℕ) (s : Stream) (kept : List ℕ) → (streamPlace wanted s % 16 ≡ 0 → ⊥) → fits wanted (streamedWith s kept (s .written)) ≡ fits wanted s
+unfolding fits keptFits
+any-fits wanted s kept begun = simp (ne-eqb (streamPlace wanted s % 16) 0 begun) refl
+
+-- what a call answers goes by its number
+by-number : (n m w : ℕ) (next s : Stream) (last o : List ℕ) → settle n (doneStep m w next last) s o .outcome ≡ cond (eqb n 0) (success m w) (withoutLength n)
+by-number n m w next s last o = go (eqb n 0)
+  where
+    go : (b : Bool) → cond b (doneStep m w next last) (refusedStep n s o) .outcome ≡ cond b (success m w) (withoutLength n)
+    go true = refl
+    go false = refl
+
+same-answer : (n n′ m w : ℕ) (next next′ s s′ : Stream) (last last′ o : List ℕ) → n ≡ n′
+    → settle n (doneStep m w next last) s o .outcome ≡ settle n′ (doneStep m w next′ last′) s′ o .outcome
+same-answer n n′ m w next next′ s s′ last last′ o e =
+    by-number n m w next s last o ∙ ap (λ (k : ℕ). cond (eqb k 0) (success m w) (withoutLength k)) e ∙ sym (by-number n′ m w next′ s′ last′ o)
+
+module _ (s : Stream) (kept shared : List ℕ) where
+  -- the state with another kept block
+  abbrev changed : Stream
+  changed = streamedWith s kept (s .written)
+
+  -- the number does not depend on it
+  same-number : (wanted : ℕ) (rest : List Row) → (streamPlace wanted s % 16 ≡ 0 → ⊥) → first (row 9 (not (fits wanted changed)) ∷ rest) ≡ first (row 9 (not (fits wanted s)) ∷ rest)
+  same-number wanted rest begun = ap (λ (f : Bool). first (row 9 (not f) ∷ rest)) (any-fits wanted s kept begun)
+
+  unjudged : (c : Call) → (streamPlace (wants c) s % 16 ≡ 0 → ⊥) → call changed shared c .outcome ≡ call s shared c .outcome
+  unfolding addStep turnStep writeStep closeStep feedStep finishStep addedWork tagOfState tagOfStateWork
+  unjudged (add piece) begun =
+      let n = length piece in
+      same-answer _ _ 0 (addedWork s n) (added changed piece) (added s piece) changed s [] [] [] (same-number 1 (row 4 (ltb limit (s .total + n)) ∷ []) begun)
+  unjudged (turn output) begun =
+      let v = tagOfState s in
+      same-answer _ _ 16 (tagOfStateWork s) (turned changed v) (turned s v) changed s (put output 0 v) (put output 0 v) output (same-number 1 (row 6 (ltb (length output) 16) ∷ []) begun)
+  unjudged (write piece output) begun =
+      let n = length piece in
+      same-answer _ _ n (pieceWork (s .written) n) (wrote changed n) (wrote s n) changed s (put output 0 (streamedAt changed (s .written) piece)) (put output 0 (streamedAt s (s .written) piece)) output
+      (same-number 2 (row 4 (ltb (s .total) (s .written + n)) ∷ row 6 (ltb (length output) n) ∷ []) begun)
+  unjudged close begun =
+      same-answer _ _ 0 0 ended ended changed s [] [] [] (ap (λ (f : Bool). first (row 9 (not (f && not (ltb (s .written) (s .total)))) ∷ [])) (any-fits 2 s kept begun))
+  unjudged (feed piece) begun =
+      let n = length piece in
+      let p = streamedAt changed (s .total) piece in
+      let q = streamedAt s (s .total) piece in
+      same-answer _ _ n (pieceWork (s .total) n + addedWork s n) (added (deciphered changed n) p) (added (deciphered s n) q) changed s (put shared (s .total) p) (put shared (s .total) q) shared
+      (same-number 3 (row 4 (ltb limit (s .total + n)) ∷ row 6 (ltb (length shared) (s .total + n)) ∷ []) begun)
+  unjudged finish begun = go (first (finishTable changed shared)) (first (finishTable s shared))
+      (same-number 3 (row 6 (ltb (length shared) (s .total)) ∷ row 8 (not (same (tagOfState s) (s .v))) ∷ []) begun) (eqb (first (finishTable changed shared)) 8) (eqb (first (finishTable s shared)) 8) refl refl
+    where
+      go : (n n′ : ℕ) → n ≡ n′ → (b b′ : Bool) → eqb n 8 ≡ b → eqb n′ 8 ≡ b′
+          → cond b (forgedStep changed shared) (settle n (doneStep (s .total) (tagOfStateWork changed) ended shared) changed shared) .outcome
+          ≡ cond b′ (forgedStep s shared) (settle n′ (doneStep (s .total) (tagOfStateWork s) ended shared) s shared) .outcome
+      go n n′ e true true p q = refl
+      go n n′ e true false p q = absurd (true≢false (sym p ∙ ap (λ (k : ℕ). eqb k 8) e ∙ q))
+      go n n′ e false true p q = absurd (true≢false (sym q ∙ ap (λ (k : ℕ). eqb k 8) (sym e) ∙ p))
+      go n n′ e false false p q = same-answer n n′ (s .total) (tagOfStateWork s) ended ended changed s shared shared shared e
+
 pub reports-and-adds-up : BlockWork
 reports-and-adds-up =
     record {
@@ -256,5 +316,6 @@ reports-and-adds-up =
           known-kept key bytes lens shared a sealer _ _ _ (runs key bytes lens a shared sealer calls (fresh sealer) _ shared (sealer-known key bytes lens a shared start) .1);
       openersKeep = λ key bytes lens a start T shared calls t.
           known-kept key bytes lens shared a (opener T) _ _ _ (runs key bytes lens a shared (opener T) calls (fresh (opener T)) _ shared (opener-known key bytes lens a shared start T t) .1);
+      unjudged = unjudged;
       judged = λ s shared c whole some. call-misfit s shared c (misfit (wants c) s whole some);
     }

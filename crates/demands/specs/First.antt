@@ -10,19 +10,19 @@ use Rattle.octets.specs.Octets.{put}
 use Rattle.aes.specs.Aes.{isWidth}
 use Rattle.cmac.specs.Cmac.{zeros}
 use Rattle.header.specs.Header.{total, strings}
-use Rattle.ctr.specs.Counter.{pieceWork}
 use Rattle.siv.specs.declared.Answer.{Answer}
 use Rattle.siv.specs.Answer.{Outcome, success, withoutLength, forged, Row, row, outcomeOf}
 use Rattle.siv.specs.Calls.{CallResult, scratchNeed, headerRows, openRows, sealTable, sealCall, openTable, openCall}
 use Rattle.siv.specs.Ring.{slotCount, slotKey, ringRows, RingResult, openRing}
 use Rattle.siv.specs.Siv.{sealed, opened, genuine}
-use Rattle.siv.specs.Work.{blocksOfAll, blockWork}
+use Rattle.siv.specs.Work.{sixteenths, blocksOfAll, blockWork}
 use Rattle.head.specs.declared.Head.{Head}
 use Rattle.head.specs.Head.{zeroHead, headOf, extended, MakeResult, madeHead, makeHead, extendHead}
 use Rattle.stream.specs.declared.Stream.{Stream}
-use Rattle.stream.specs.State.{ended, start, added, addedWork, tagOfState, tagOfStateWork, streamedAt}
+use Rattle.stream.specs.State.{ended, start, added, tagOfState, tagOfStateWork, streamedAt}
 use Rattle.stream.specs.Steps.{StepResult, doneStep, refusedStep, tagRows, beginSealer, beginOpener, beginSealerFrom, beginOpenerFrom, addRows, addStep, turnRows, turned, turnStep, writeRows, wrote, writeStep, closeRows, closeStep, feedRows, deciphered, feedStep, finishTable, forgedStep, finishStep}
 use Rattle.kinphlor.specs.Interface.{aeadLens, packed, sealFromC, openFromC, packedRing, openRingFromC}
+use Rattle.demands.specs.Model.{chained}
 
 -- document 01's order of refusals, with document 02's 11 straight after 1
 abbrev pub order : List ℕ
@@ -200,17 +200,20 @@ pub record First : Type 0 where
   pub beginningOpenerFrom : (h : Head) (bytes lens tag : List ℕ)
       → FirstStep (restTable h lens (length bytes) ++ tagRows (length tag)) (beginOpenerFrom h bytes lens tag)
       (doneStep 0 (blocksOfAll lens) (start (extended h (strings bytes lens)) 3 tag) []) ended []
-  pub adding : (s : Stream) (piece : List ℕ) → FirstStep (addRows s (length piece)) (addStep s piece) (doneStep 0 (addedWork s (length piece)) (added s piece) []) s []
+  pub adding : (s : Stream) (piece : List ℕ) → FirstStep (addRows s (length piece)) (addStep s piece)
+      (doneStep 0 (chained (s .total + length piece) - chained (s .total)) (added s piece) []) s []
   pub turning : (s : Stream) (output : List ℕ)
       → FirstStep (turnRows s (length output)) (turnStep s output)
       (doneStep 16 (tagOfStateWork s) (turned s (tagOfState s)) (put output 0 (tagOfState s))) s output
   pub writing : (s : Stream) (piece output : List ℕ)
       → FirstStep (writeRows s (length piece) (length output)) (writeStep s piece output)
-      (doneStep (length piece) (pieceWork (s .written) (length piece)) (wrote s (length piece)) (put output 0 (streamedAt s (s .written) piece))) s output
+      (doneStep (length piece) (sixteenths (s .written + length piece) - sixteenths (s .written)) (wrote s (length piece)) (put output 0 (streamedAt s (s .written) piece))) s output
   pub closing : (s : Stream) → FirstStep (closeRows s) (closeStep s) (doneStep 0 0 ended []) s []
   pub feeding : (s : Stream) (piece output : List ℕ)
       → FirstStep (feedRows s (length piece) (length output)) (feedStep s piece output)
-      (doneStep (length piece) (pieceWork (s .total) (length piece) + addedWork s (length piece)) (added (deciphered s (length piece)) (streamedAt s (s .total) piece))
+      (doneStep (length piece)
+      ((sixteenths (s .total + length piece) - sixteenths (s .total)) + (chained (s .total + length piece) - chained (s .total)))
+      (added (deciphered s (length piece)) (streamedAt s (s .total) piece))
       (put output (s .total) (streamedAt s (s .total) piece))) s output
   pub finishing : (s : Stream) (output : List ℕ) → FirstFinish s output
   pub outcomeTells : (a b : Answer) (w w′ : ℕ) → outcomeOf a w ≡ outcomeOf b w′ → (a ≡ b) × (w ≡ w′)

@@ -13,7 +13,7 @@ use Rattle.siv.specs.Calls.{CallResult, sealCall, openCall}
 use Rattle.siv.specs.Siv.{ctrKey}
 use Rattle.siv.specs.Work.{blockWork, plannedWork}
 use Rattle.stream.specs.declared.Stream.{Stream}
-use Rattle.stream.specs.State.{allZero, streamPlace}
+use Rattle.stream.specs.State.{allZero, streamPlace, streamedWith}
 use Rattle.stream.specs.Steps.{refusedStep}
 use Rattle.kinphlor.specs.Interface.{sealFromC, openFromC, plannedFromC}
 use Rattle.demands.specs.Model.{ModelState, wants, sealTag}
@@ -44,7 +44,7 @@ module _ (key bytes lens : List ℕ) where
   -- from begin to stage 0 the answers of a list of calls, refused ones included, add up to the whole call's sum, less the head's blocks
   abbrev pub AddsUp : Begin → List ℕ → List Call → Start → Type 0
   AddsUp begin shared calls start =
-      expected key bytes lens begin shared calls .model .stage ≡ 0
+      ran key bytes lens begin shared calls start .state .stage ≡ 0
       → headWork start + (begun key bytes lens start begin .outcome .work + workOf (ran key bytes lens begin shared calls start .entries))
       ≡ blockWork lens (length (expected key bytes lens begin shared calls .model .A))
 
@@ -75,6 +75,9 @@ pub record BlockWork : Type 0 where
       → ran key bytes lens sealer shared calls start .state .kept ≡ ownBlock key bytes lens sealer (expected key bytes lens sealer shared calls .model)
   pub openersKeep : (key bytes lens : List ℕ) → Admits key bytes lens → (start : Start) (T shared : List ℕ) (calls : List Call) → length T ≡ 16
       → ran key bytes lens (opener T) shared calls start .state .kept ≡ ownBlock key bytes lens (opener T) (expected key bytes lens (opener T) shared calls .model)
-  -- a given state that keeps a block where none is begun gives 9, and state and output are as they were
+  -- where one is begun a given state may keep any block: what the calls answer does not depend on it
+  pub unjudged : (s : Stream) (kept shared : List ℕ) (c : Call) → (streamPlace (wants c) s % 16 ≡ 0 → ⊥)
+      → call (streamedWith s kept (s .written)) shared c .outcome ≡ call s shared c .outcome
+  -- where none is, one that is not zero gives 9, and state and output are as they were
   pub judged : (s : Stream) (shared : List ℕ) (c : Call) → streamPlace (wants c) s % 16 ≡ 0 → allZero (s .kept) ≡ false
       → call s shared c ≡ refusedStep 9 s (lent shared c)

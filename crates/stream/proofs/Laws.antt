@@ -3,7 +3,7 @@
 use mathlib.Core.Path.{_≡_, refl, ap, ap₂, sym, subst, _∙_}
 use mathlib.Core.Bool.{Bool, true, false, not, cond, _&&_, _||_, and-eq-true-iff}
 use mathlib.Core.List.{List, [], _∷_, _++_, append-assoc}
-use Prim.Native.Nat.{ℕ, suc, _+_, _-_, _*_, _/_, _%_, _≤_, _<_, min}
+use Prim.Native.Nat.{ℕ, _+_, _-_, _*_, _/_, _%_, _≤_, _<_, min}
 use native.Mathlib.Numerals.{add-one}
 use native.Mathlib.Decide.{decLt, ℕ-discrete}
 use native.Mathlib.Omega.{arith}
@@ -19,8 +19,8 @@ use Rattle.aes.specs.Cipher.{cipher}
 use Rattle.cmac.specs.Cmac.{zeros, chain}
 use Rattle.s2v.specs.S2v.{tailLength}
 use Rattle.s2v.proofs.Laws.{Tail, tail, tail-short, tail-long}
-use Rattle.ctr.specs.Counter.{keyStreamWork, xorStream, begunBlock, leftOver, pieceWork}
-use Rattle.ctr.proofs.Laws.{pieceWork-within, pieceWork-beyond, length-xorPiece, xorPiece-within, keptAfter-within, xorPiece-beyond, keptAfter-beyond}
+use Rattle.ctr.specs.Counter.{keyStreamWork, xorStream, noBlock, begunBlock, leftOver, pieceWork, xorPiece, keptAfter}
+use Rattle.ctr.proofs.Laws.{pieceWork-within, pieceWork-beyond, pieceWork-fresh, length-xorPiece, xorPiece-within, keptAfter-within, xorPiece-beyond, keptAfter-beyond, xorPiece-fresh, keptAfter-fresh}
 use Rattle.siv.specs.declared.Answer.{Answer}
 use Rattle.siv.specs.declared.Answer.the-variants.{Ok, Refused}
 use Rattle.siv.specs.declared.Refusal.the-variants.{Forged}
@@ -263,13 +263,14 @@ module _ (s : Stream) (long : length (s .kept) ≡ 16) (place : ℕ) (text l : L
     used-up = omega (arith, few, more)
 
     pub streamed-beyond : at + length text ≤ length l → {wrote last : List ℕ} → wrote ≡ put l at fromKept
-        → last ≡ put wrote (at + n) (xorStream (cipher (s .width) (s .«ctr_keys»)) (s .v) (16 * ((place + n) / 16)) fromNew) → last ≡ put l at (streamedAt s place text)
+        → last ≡ put wrote (at + n) (xorPiece (cipher (s .width) (s .«ctr_keys»)) (s .v) noBlock (16 * ((place + n) / 16)) fromNew) → last ≡ put l at (streamedAt s place text)
     unfolding streamedAt F
-    streamed-beyond room w e =
+    streamed-beyond room {wrote} w e =
         let next : 16 * ((place + n) / 16) ≡ place + n = omega (arith, used-up) in
         let seam : at + n ≡ at + length fromKept = ap (λ (k : ℕ). at + k) (sym length-fromKept) in
         let rest : List ℕ = xorStream F (s .v) (place + n) (drop n text) in
         e
+        ∙ ap (put wrote (at + n)) (xorPiece-fresh F (length-cipher _ _) (s .v) ((place + n) / 16) fromNew)
         ∙ ap₂ (λ (x : List ℕ) (k : ℕ). put x (at + n) (xorStream F (s .v) k fromNew)) w next
         ∙ ap₂ (λ (k : ℕ) (t : List ℕ). put (put l at fromKept) k (xorStream F (s .v) (place + n) t)) seam from-new
         ∙ put-put l at fromKept rest (omega (arith, length-fromKept, few))
@@ -277,16 +278,18 @@ module _ (s : Stream) (long : length (s .kept) ≡ 16) (place : ℕ) (text l : L
         ∙ ap (λ (k : ℕ). put l at (xors (take k text) (drop (place % 16) (s .kept)) ++ xorStream F (s .v) (place + k) (drop k text))) used-up
         ∙ ap (put l at) (sym (xorPiece-beyond F (length-cipher _ _) (s .v) (s .kept) place text long (omega (arith, few, used-up))))
 
-    pub kept-beyond : begunBlock (cipher (s .width) (s .«ctr_keys»)) (s .v) (16 * ((place + n) / 16) + length fromNew) ≡ keptAt s place (length text)
+    pub kept-beyond : keptAfter (cipher (s .width) (s .«ctr_keys»)) (s .v) noBlock (16 * ((place + n) / 16)) (length fromNew) ≡ keptAt s place (length text)
     unfolding keptAt F
     kept-beyond =
         let end : 16 * ((place + n) / 16) + length fromNew ≡ place + length text = omega (arith, used-up, few, ap length from-new, length-drop n text) in
-        ap (begunBlock F (s .v)) end ∙ sym (keptAfter-beyond F (length-cipher _ _) (s .v) (s .kept) place (length text) long (omega (arith, few, used-up)))
+        keptAfter-fresh F (length-cipher _ _) (s .v) ((place + n) / 16) (length fromNew)
+        ∙ ap (begunBlock F (s .v)) end
+        ∙ sym (keptAfter-beyond F (length-cipher _ _) (s .v) (s .kept) place (length text) long (omega (arith, few, used-up)))
 
-    pub work-beyond : keyStreamWork (length fromNew) ≡ pieceWork place (length text)
+    pub work-beyond : pieceWork (16 * ((place + n) / 16)) (length fromNew) ≡ pieceWork place (length text)
     work-beyond =
         let count : length fromNew ≡ length text - leftOver place = omega (arith, used-up, ap length from-new, length-drop n text) in
-        ap keyStreamWork count ∙ sym (pieceWork-beyond place (length text) (omega (arith, few, used-up)))
+        pieceWork-fresh ((place + n) / 16) (length fromNew) ∙ ap keyStreamWork count ∙ sym (pieceWork-beyond place (length text) (omega (arith, few, used-up)))
 
 -- ---- feed and finish
 

@@ -9,7 +9,7 @@ use Rattle.aes.specs.Cipher.{cipher}
 use Rattle.octets.specs.Octets.{xors}
 use Rattle.octets.proofs.Strings.{part-rest}
 use Rattle.cmac.specs.declared.Subkeys.{Subkeys}
-use Rattle.cmac.specs.Cmac.{lastBlock, blocksBefore, chain, cmacFrom}
+use Rattle.cmac.specs.Cmac.{lastBlock, chain, cmacFrom}
 use Rattle.cmac.proofs.Laws.{chain-work, cmac-work}
 use borrow.Author.Needs.{needs}
 use Rattle.cmac.proofs.cmac_from.Statement.{statement}

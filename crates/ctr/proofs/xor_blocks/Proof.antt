@@ -24,41 +24,41 @@ loop-holds c =
     let args = c .before .before .args in
     (omega arith, reached-none _ (length-cipher (args .width) (args .keys .now)) _ _ _ _ _, refl)
 
-add-xor-piece : tie.Need-add-xor-piece Inv-loop μ-loop
-add-xor-piece c = search needs
+add-xor-with-block : tie.Need-add-xor-with-block Inv-loop μ-loop
+add-xor-with-block c = search needs
 
-mul-xor-piece : tie.Need-mul-xor-piece Inv-loop μ-loop
-mul-xor-piece c = search needs
+mul-xor-with-block : tie.Need-mul-xor-with-block Inv-loop μ-loop
+mul-xor-with-block c = search needs
 
-mul-xor-piece-2 : tie.Need-mul-xor-piece-2 Inv-loop μ-loop
-mul-xor-piece-2 c = search needs
+mul-xor-with-block-2 : tie.Need-mul-xor-with-block-2 Inv-loop μ-loop
+mul-xor-with-block-2 c = search needs
 
-add-xor-piece-2 : tie.Need-add-xor-piece-2 Inv-loop μ-loop
-add-xor-piece-2 c = search needs
+add-xor-with-block-2 : tie.Need-add-xor-with-block-2 Inv-loop μ-loop
+add-xor-with-block-2 c = search needs
 
-sub-xor-piece : tie.Need-sub-xor-piece Inv-loop μ-loop
-sub-xor-piece c = search needs
+sub-xor-with-block : tie.Need-sub-xor-with-block Inv-loop μ-loop
+sub-xor-with-block c = search needs
 
-part-xor-piece-start : tie.Need-part-xor-piece-start Inv-loop μ-loop
-part-xor-piece-start c = search needs
+part-xor-with-block-start : tie.Need-part-xor-with-block-start Inv-loop μ-loop
+part-xor-with-block-start c = search needs
 
-part-xor-piece-end : tie.Need-part-xor-piece-end Inv-loop μ-loop
-part-xor-piece-end c = search needs
+part-xor-with-block-end : tie.Need-part-xor-with-block-end Inv-loop μ-loop
+part-xor-with-block-end c = search needs
 
-mul-xor-piece-3 : tie.Need-mul-xor-piece-3 Inv-loop μ-loop
-mul-xor-piece-3 c = search needs
+mul-xor-with-block-3 : tie.Need-mul-xor-with-block-3 Inv-loop μ-loop
+mul-xor-with-block-3 c = search needs
 
-add-xor-piece-3 : tie.Need-add-xor-piece-3 Inv-loop μ-loop
-add-xor-piece-3 c = search needs
+add-xor-with-block-3 : tie.Need-add-xor-with-block-3 Inv-loop μ-loop
+add-xor-with-block-3 c = search needs
 
-xor-piece-requires : tie.Need-xor-piece-requires Inv-loop μ-loop
-xor-piece-requires c κs = search needs
+xor-with-block-requires : tie.Need-xor-with-block-requires Inv-loop μ-loop
+xor-with-block-requires c κs = search needs
 
 add-work : tie.Need-add-work Inv-loop μ-loop
 add-work c =
     let called = c .before .before .before in
     let head = called .before .before .before .before in
-    omega (arith, called .xor-piece .ensures .0 .work, head .loop .inv .2, stream-work (head .loop .j))
+    omega (arith, called .xor-with-block .ensures .0 .work, head .loop .inv .2, stream-work (head .loop .j))
 
 add-j : tie.Need-add-j Inv-loop μ-loop
 add-j c = search needs
@@ -71,7 +71,7 @@ loop-again c =
     let called = c .before .before .before in
     let head = called .before .before .before .before in
     let args = head .before .before .before .args in
-    let piece = called .xor-piece .ensures in
+    let piece = called .xor-with-block .ensures in
     let j = head .loop .j in (
       omega arith,
       reached-more _ (length-cipher (args .width) (args .keys .now)) _ _ _ _ _ j (omega arith) (omega arith) (omega arith) (head .loop .inv .1) (omega arith) (piece .1),
@@ -94,16 +94,16 @@ xor-blocks-spec =
     Inv-loop
     μ-loop
     loop-holds
-    add-xor-piece
-    mul-xor-piece
-    mul-xor-piece-2
-    add-xor-piece-2
-    sub-xor-piece
-    part-xor-piece-start
-    part-xor-piece-end
-    mul-xor-piece-3
-    add-xor-piece-3
-    xor-piece-requires
+    add-xor-with-block
+    mul-xor-with-block
+    mul-xor-with-block-2
+    add-xor-with-block-2
+    sub-xor-with-block
+    part-xor-with-block-start
+    part-xor-with-block-end
+    mul-xor-with-block-3
+    add-xor-with-block-3
+    xor-with-block-requires
     add-work
     add-j
     loop-less

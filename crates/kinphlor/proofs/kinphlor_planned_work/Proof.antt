@@ -1,6 +1,5 @@
 -- `kinphlor::kinphlor_planned_work` meets its contract.
 -- Assumes nothing.
-use mathlib.Core.Path.{_∙_}
 use borrow.Author.Needs.{needs}
 use borrow.Author.Tests.{eq-eqb, ne-eqb}
 use Rattle.kinphlor.specs.Interface.{plannedFromC}

@@ -10,7 +10,9 @@ use Rattle.octets.specs.Octets.{put}
 use Rattle.octets.proofs.Strings.{part-rest}
 use Rattle.aes.specs.Aes.{isWidth}
 use Rattle.aes.specs.KeyExpansion.{roundKeys}
+use Rattle.aes.proofs.Widths.{length-cipher}
 use Rattle.ctr.specs.Counter.{xorStream}
+use Rattle.ctr.proofs.Laws.{pieceWork-fresh, xorPiece-fresh}
 use Rattle.siv.specs.Siv.{ctrKey, streamed, streamedWork}
 use Rattle.siv.proofs.Laws.{KeyHalves, halves, aes-cipher}
 use Rattle.siv.proofs.work.stream.Statement.{statement}
@@ -52,8 +54,10 @@ returns c =
     let long : length key / 2 ≡ length (ctrKey key) = simp length-drop (omega arith) in
     let keys = c .before .before .before .before .before .round-keys .ensures ∙ ap roundKeys (part-rest key (length key / 2)) in
     let wrote = c .before .before .xor-from .ensures in (
-      wrote .0 .work,
-      wrote .1 ∙ ap (λ (E : List ℕ → List ℕ). put (args .dst .now) (args .at) (xorStream E (args .v) 0 (args .src .now))) (aes-cipher (ctrKey key) long keys),
+      wrote .0 .work ∙ pieceWork-fresh 0 (length (args .src .now)),
+      wrote .1
+          ∙ ap (put (args .dst .now) (args .at)) (xorPiece-fresh _ (length-cipher _ _) (args .v) 0 (args .src .now))
+          ∙ ap (λ (E : List ℕ → List ℕ). put (args .dst .now) (args .at) (xorStream E (args .v) 0 (args .src .now))) (aes-cipher (ctrKey key) long keys),
     )
 
 pub stream-spec : {M : Type 1} → statement M

@@ -1,13 +1,13 @@
 -- `stream::judge::kept_fits` meets its contract.
 -- Assumes nothing.
 use mathlib.Core.Path.{_≡_, ap, sym, _∙_}
-use mathlib.Core.Bool.{Bool, not, _||_}
+use mathlib.Core.Bool.{not, _||_}
 use Prim.Native.Nat.{ℕ, _%_}
 use lib.Dec.{eqb}
 use lib.ListN.{length}
 use borrow.Author.Needs.{needs}
 use borrow.Author.Tests.{eq-eqb, ne-eqb}
-use Rattle.stream.specs.State.{allZero, streamPlace, keptFits}
+use Rattle.stream.specs.State.{allZero, keptFits}
 use Rattle.stream.proofs.judge.kept_fits.Statement.{statement}
 use Rattle.stream.proofs.judge.kept_fits.Tie as tie
 

@@ -1,4 +1,4 @@
--- `ctr::xor_piece` meets its contract.
+-- `ctr::xor_with_block` meets its contract.
 -- Assumes nothing.
 use mathlib.Core.Path.{_≡_, ap, _∙_}
 use mathlib.Core.List.{List}
@@ -9,8 +9,8 @@ use Rattle.aes.specs.Cipher.{cipher}
 use Rattle.aes.proofs.Widths.{length-cipher}
 use Rattle.ctr.specs.Counter.{clear, plus}
 use Rattle.ctr.proofs.Pieces.{xorStream-piece}
-use Rattle.ctr.proofs.xor_piece.Statement.{statement}
-use Rattle.ctr.proofs.xor_piece.Tie as tie
+use Rattle.ctr.proofs.xor_with_block.Statement.{statement}
+use Rattle.ctr.proofs.xor_with_block.Tie as tie
 
 clear-requires : tie.Need-clear-requires
 clear-requires c κs = search needs
@@ -45,8 +45,8 @@ returns c =
       xorStream-piece _ (length-cipher (args .width) (args .keys .now)) _ _ _ _ _ (start .pre .2) block (wrote .xor-at .ensures),
     )
 
-pub xor-piece-spec : {M : Type 1} → statement M
-xor-piece-spec =
+pub xor-with-block-spec : {M : Type 1} → statement M
+xor-with-block-spec =
     tie.close
     (tie.spec
     clear-requires
