@@ -82,8 +82,8 @@ static uint64_t open_changing(const uint8_t ring[KEYS * KEY_LEN], struct lane la
 }
 
 /*
- * How many blocks the cipher works to seal a record, or to try a key on one. A wall unit that knows a block's time knows
- * by it when a record will be sealed.
+ * How many blocks go through the cipher to seal a record, or to try a key on one. A wall unit that knows a block's time,
+ * and a call's own, knows by it when a record will be sealed.
  */
 static uint64_t record_work(void) { return kinphlor_planned_work(AD_LEN, NONCE_LEN, RECORD_LEN); }
 

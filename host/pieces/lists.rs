@@ -51,8 +51,13 @@ pub fn run(pieces: &mut Pieces) {
         }
     }
     check::holds(
-        || format!("sealers and openers, from keys and from heads, to stage 0 and not: lists have {forms:?}"),
-        forms.len() == 8,
+        || {
+            format!(
+                "sealers that wrote what was added, sealers that wrote other bytes, and openers, from keys and from heads, \
+                 to stage 0 and not: lists have {forms:?}"
+            )
+        },
+        forms.len() == 12,
     );
     for (kind, number) in AT_LIMIT {
         let seen = tally.contains_key(&(kind, number, true));
@@ -159,8 +164,9 @@ struct List<'a> {
     talks: bool,
 }
 
-/// Runs the list of a seed. Says whether its begin was an opener's, whether from a head, and whether it came to stage 0.
-fn run_list(pieces: &Pieces, seed: u64, talks: bool, tally: &mut Tally) -> [bool; 3] {
+/// Runs the list of a seed. Says whether its begin was an opener's, whether from a head, whether other bytes were written
+/// than were added, and whether it came to stage 0.
+fn run_list(pieces: &Pieces, seed: u64, talks: bool, tally: &mut Tally) -> [bool; 4] {
     let mut random = Random(seed);
     let start = Start::random(&mut random, &pieces.peers);
     let mut state = State([0xa5; LEN]);
@@ -201,7 +207,8 @@ fn run_list(pieces: &Pieces, seed: u64, talks: bool, tally: &mut Tally) -> [bool
         *tally.entry((kind, number, list.model.a.len() == LIMIT)).or_default() += 1;
     }
     list.end();
-    [start.tag.is_some(), start.split.is_some(), list.model.stage == 0]
+    let others = !list.model.a.starts_with(&list.model.w);
+    [start.tag.is_some(), start.split.is_some(), others, list.model.stage == 0]
 }
 
 impl List<'_> {

@@ -50,7 +50,7 @@ module _ (key bytes lens : List ℕ) where
 
   -- ---- the kept block
 
-  -- the key stream's own block, of the tag and behind the bytes that are used, by what the model keeps: begun and not used up, and else zero
+  -- the block of the tag's key stream that the bytes used so far begin and do not use up, by what the model keeps; zero where there is none
   abbrev pub ownBlock : Begin → ModelState → List ℕ
   ownBlock sealer b = cond (eqb (b .stage) 2) (begunBlock (aes (ctrKey key)) (sealTag key bytes lens (b .A)) (length (b .W))) zeros
   ownBlock (opener T) b = cond (eqb (b .stage) 3) (begunBlock (aes (ctrKey key)) T (length (b .A))) zeros

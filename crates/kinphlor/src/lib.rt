@@ -132,7 +132,7 @@ pub extern "C" fn kinphlor_open_ring(
     pack_ring(siv::open_ring(key_len, ring, header, &lens, input, output, scratch))
 }
 
-// How many blocks the cipher will work to seal n bytes, or to open what that gives, with associated data and nonce of these lengths: for planning, from lengths alone. 0 where the call is refused for a length.
+// How many blocks go through the cipher to seal n bytes, or to open what that gives, with associated data and nonce of these lengths: for planning, from lengths alone. 0 for an empty nonce and for n over the limit.
 #[no_mangle]
 pub extern "C" fn kinphlor_planned_work(ad_len: u32, nonce_len: u32, n: usize) -> u64
     ensures { λ r. ⌜ r ≡ plannedFromC «ad_len» «nonce_len» n ⌝ }

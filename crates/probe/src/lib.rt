@@ -108,7 +108,7 @@ pub extern "C" fn probe_open_ring(
     kinphlor::pack(answer)
 }
 
-// What a whole call with header strings of these lengths and n bytes of plaintext will work.
+// What a whole call with header strings of these lengths and n bytes of plaintext will report as its work.
 #[no_mangle]
 pub extern "C" fn probe_planned_work(lens: &[u32], n: usize) -> u64 {
     siv::planned_work(lens, n) as u64

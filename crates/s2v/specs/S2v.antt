@@ -26,7 +26,7 @@ unfoldable pub absorbStrings : (List ℕ → List ℕ) → Subkeys → List ℕ 
 absorbStrings E k d [] = d
 absorbStrings E k d (s ∷ ss) = absorbStrings E k (xors (double d) (cmac E k s)) ss
 
--- with the work w before it
+-- its work, counted on from w
 unfoldable pub absorbWork : ℕ → List (List ℕ) → ℕ
 absorbWork w [] = w
 absorbWork w (s ∷ ss) = absorbWork (w + cmacWork s) ss

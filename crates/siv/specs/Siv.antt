@@ -47,6 +47,6 @@ opened key y = streamed key (take 16 y) (drop 16 y)
 unfoldable pub genuine : List ℕ → List (List ℕ) → List ℕ → Bool
 genuine key ss y = same (tagOf key ss (opened key y)) (take 16 y)
 
--- with that of `opened`
+-- its work, and that of `opened`
 unfoldable pub genuineWork : List ℕ → List (List ℕ) → List ℕ → ℕ
 genuineWork key ss y = streamedWork (drop 16 y) + tagOfWork key ss (opened key y)

@@ -47,7 +47,7 @@ pub enum Answer {
     Refused(Refusal),
 }
 
-// An answer, and how many blocks the cipher worked for it: 0 after a refusal other than Forged, which took as many as success.
+// An answer, and how many blocks went through the cipher for it: 0 after a refusal other than Forged, which took as many as success.
 pub struct Report {
     pub answer: Answer,
     pub work: usize,
@@ -206,7 +206,7 @@ fn blocks_of_all(lens: &[u32]) -> usize
     blocks
 }
 
-// What whole sealing of n bytes under header strings of these lengths, or opening of what it gives, will report as its work; 0 where it is refused for a length.
+// What whole sealing of n bytes under header strings of these lengths, or opening of what it gives, will report as its work; 0 for more than 126 strings and for n over the limit.
 pub fn planned_work(lens: &[u32], n: usize) -> usize
     ensures { λ r. ⌜ r ≡ plannedWork (now (lens .entry)) n ⌝ }
 {

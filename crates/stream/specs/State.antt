@@ -68,7 +68,7 @@ writtenLimit stage total = cond (eqb stage 2) total 0
 abbrev pub streamPlace : ℕ → Stream → ℕ
 streamPlace stage s = cond (eqb stage 2) (s .written) (cond (eqb stage 3) (s .total) 0)
 
--- the kept block is zero where they are whole blocks; else it is used as it is
+-- the kept block is zero where whole blocks of the key stream are used; else it is used as it is
 unfoldable pub keptFits : ℕ → Stream → Bool
 keptFits stage s = not (eqb (streamPlace stage s % 16) 0) || allZero (s .kept)
 

@@ -68,7 +68,7 @@ fn stream_place(stage: u8, s: Stream) -> usize
     0
 }
 
-// Whether the kept block is zero where these are whole blocks.
+// Whether the kept block is zero where whole blocks of the key stream are used.
 fn kept_fits(stage: u8, s: Stream) -> bool
     ensures { λ r. ⌜ r ≡ keptFits stage s ⌝ }
 {
