@@ -143,7 +143,7 @@ length-absorbStrings E k d (s ∷ ss) = length-absorbStrings E k _ ss ∙ length
 
 pub length-headerResult : (E : List ℕ → List ℕ) → ((b : List ℕ) → length (E b) ≡ 16) → (k : Subkeys) (ss : List (List ℕ)) → length (headerResult E k ss) ≡ 16
 unfolding headerResult cmacFrom
-length-headerResult E sized k ss = length-absorbStrings E k (cmac E k zeros) ss ∙ sized _
+length-headerResult E sized k ss = length-absorbStrings E k _ ss ∙ sized _
 
 pub absorb-work-append : (w : ℕ) (a b : List (List ℕ)) → absorbWork w (a ++ b) ≡ absorbWork (absorbWork w a) b
 unfolding absorbWork
