@@ -386,9 +386,9 @@ module _ (key bytes lens input output scratch : List ℕ) where
   unfolding openCall number
   open-work judged = go (genuine key (strings bytes lens) input) (by-tag judged)
     where
-      go : (g : Bool) → number ≡ cond (not g) 8 0 → cond (eqb number 0 || eqb number 8) (genuineWork key (strings bytes lens) input) 0 ≡ genuineWork key (strings bytes lens) input
-      go true e = simp e
-      go false e = simp e
+      go : (g : Bool) → number ≡ cond (not g) 8 0 → openCall key bytes lens input output scratch .outcome .work ≡ genuineWork key (strings bytes lens) input
+      go true e = simp e refl
+      go false e = simp e refl
 
   -- past the judgement the number is 0 where the string is genuine
   pub open-number : openJudged ≡ 0 → eqb (openCall key bytes lens input output scratch .outcome .number) 0 ≡ genuine key (strings bytes lens) input

@@ -2,12 +2,15 @@
 -- Assumes nothing.
 use mathlib.Core.Path.{_≡_, ap, sym}
 use mathlib.Core.Bool.{Bool, true, cond}
+use Prim.Native.Nat.{ℕ, _-_}
 use native.Mathlib.Omega.{arith}
+use lib.Dec.{ltb}
 use lib.ListN.{length}
 use borrow.Author.Needs.{needs}
 use borrow.Author.Tests.{lt-ltb, le-ltb}
+use Rattle.siv.specs.Answer.{outcomeOf, success, forged}
 use Rattle.siv.specs.Calls.{isKeyLength}
-use Rattle.siv.specs.Ring.{slotKey}
+use Rattle.siv.specs.Ring.{slotCount, slotKey}
 use Rattle.siv.proofs.Laws.{told-refused, passed, OpenAdmits, open-admits}
 use Rattle.siv.proofs.Ring.{key-length-some, RingWhole, ring-admits, ringJudged, ring-judged, slot-passed, ring-refused, ring-delivered}
 use Rattle.siv.proofs.open_ring.Statement.{statement}
@@ -66,6 +69,13 @@ deliver-requires c κs =
     let a = admits (c .before .before .before .before .before .before .before) in
     (a .roomy, omega (arith, a .scratchy, c .before .before .before .before .first-slot .kept .1 .1 .1 .1 .1 .1 .0))
 
+-- the answer is that of a slot that was found, or of none
+told : (c : tie.After-deliver)
+    → let searched = c .before .before .before .before .before in
+    let a = searched .before .before .before .before .before .before .before .before .before .before .before .args in
+    (w : ℕ) → outcomeOf (c .deliver .result) w ≡ cond (ltb (searched .first-slot .result .slot) (slotCount (a .key-len) (length (a .ring .now)))) (success (length (a .input .now) - 16) w) (forged w)
+told c = c .deliver .ensures .0
+
 same-length : tie.Need-same-length
 same-length c = search needs
 
@@ -78,7 +88,7 @@ returns-2 c =
     let searched = done .before .before .before .before .before in
     let search = searched .first-slot .ensures in
     ring-delivered _ _ _ _ _ _ _ (judged (searched .before .before .before)) _ (search .0) _ _ _ _ (sym (ap (λ (t : Bool). cond t (searched .first-slot .result .slot) 0) (lt-ltb _ _ (c .if1 .taken))))
-    (search .1 .1 .0) (search .1 .0) (done .deliver .ensures .0) (done .deliver .ensures .1 .0) (search .1 .1 .1) (done .deliver .ensures .1 .1)
+    (search .1 .1 .0) (search .1 .0) (told done) (done .deliver .ensures .1 .0) (search .1 .1 .1) (done .deliver .ensures .1 .1)
 
 same-length-3 : tie.Need-same-length-3
 same-length-3 c = search needs
@@ -92,7 +102,7 @@ returns-3 c =
     let searched = done .before .before .before .before .before in
     let search = searched .first-slot .ensures in
     ring-delivered _ _ _ _ _ _ _ (judged (searched .before .before .before)) _ (search .0) _ _ _ _ (sym (ap (λ (t : Bool). cond t (searched .first-slot .result .slot) 0) (le-ltb _ _ (c .if1 .left))))
-    (search .1 .1 .0) (search .1 .0) (done .deliver .ensures .0) (done .deliver .ensures .1 .0) (search .1 .1 .1) (done .deliver .ensures .1 .1)
+    (search .1 .1 .0) (search .1 .0) (told done) (done .deliver .ensures .1 .0) (search .1 .1 .1) (done .deliver .ensures .1 .1)
 
 pub open-ring-spec : {M : Type 1} → statement M
 open-ring-spec =

@@ -76,16 +76,13 @@ opens-slot-requires c κs =
     )
 
 -- the work of the slot that was tried
-tried-work : (c : tie.After-opens-slot Inv-loop μ-loop)
-    → let args = c .before .before .before .before .before .before .before .before .before .before .before .before .before .args in
-    c .opens-slot .result .work ≡ genuineWork (slotKey (args .key-len) (args .ring .now) (args .slots - c .before .before .before .before .loop .left)) (strings (args .header .now) (args .lens .now)) (args .sealed .now)
-tried-work c =
-    let args = c .before .before .before .before .before .before .before .before .before .before .before .before .before .args in
-    let y = args .sealed .now in
-    c .opens-slot .ensures .1 .0 ∙ genuine-work-by _ (strings (args .header .now) (args .lens .now)) y (c .before .before .before .before .before .before .load .ensures) (part-rest y 16)
-
 small : (c : tie.After-opens-slot Inv-loop μ-loop) → c .opens-slot .result .work ≤ most
-small c = le-trans (le-of-eq (tried-work c)) (key-work (c .before .before .before .before .before .before .before .before .before .before .before .before .before) _)
+small c =
+    let start = c .before .before .before .before .before .before .before .before .before .before .before .before .before in
+    let args = start .args in
+    let y = args .sealed .now in
+    let worked = c .opens-slot .ensures .1 .0 ∙ genuine-work-by _ (strings (args .header .now) (args .lens .now)) y (c .before .before .before .before .before .before .load .ensures) (part-rest y 16) in
+    le-trans (le-of-eq worked) (key-work start _)
 
 add-work : tie.Need-add-work Inv-loop μ-loop
 add-work c =
@@ -108,9 +105,10 @@ loop-again c =
     let y = args .sealed .now in
     let tried = called .opens-slot .ensures in
     let text = tried .1 .1 ∙ ap (put (turn .before .loop .scratch) 0) (opened-by _ y (loaded .load .ensures) (part-rest y 16)) in
+    let worked = tried .1 .0 ∙ genuine-work-by _ (strings (args .header .now) (args .lens .now)) y (loaded .load .ensures) (part-rest y 16) in
     searching-more _ _ _ _ _ _ _ _ _ _ _ (turn .before .loop .inv) (turn .if1 .left)
     (sym (tried .0 ∙ genuine-by _ (strings (args .header .now) (args .lens .now)) y (loaded .load .ensures) (part-rest y 16)) ∙ c .if2 .left)
-    (tried-work called) (small called) (called .opens-slot .kept .1 .1 .1 .1 .1 .1 .1 .1 .0) (put-rest (turn .before .loop .scratch) _ text (sym (length-opened _ y)))
+    worked (small called) (called .opens-slot .kept .1 .1 .1 .1 .1 .1 .1 .1 .0) (put-rest (turn .before .loop .scratch) _ text (sym (length-opened _ y)))
 
 same-length : tie.Need-same-length Inv-loop μ-loop
 same-length c = search needs
@@ -134,8 +132,9 @@ returns-2 c =
     let y = args .sealed .now in
     let tried = called .opens-slot .ensures in
     let text = tried .1 .1 ∙ ap (put (turn .before .loop .scratch) 0) (opened-by _ y (loaded .load .ensures) (part-rest y 16)) in
+    let worked = tried .1 .0 ∙ genuine-work-by _ (strings (args .header .now) (args .lens .now)) y (loaded .load .ensures) (part-rest y 16) in
     let found = searching-found _ _ _ _ _ _ _ _ _ _ inv (turn .if1 .left)
-    (sym (tried .0 ∙ genuine-by _ (strings (args .header .now) (args .lens .now)) y (loaded .load .ensures) (part-rest y 16)) ∙ c .if2 .taken) (tried-work called) in (
+    (sym (tried .0 ∙ genuine-by _ (strings (args .header .now) (args .lens .now)) y (loaded .load .ensures) (part-rest y 16)) ∙ c .if2 .taken) worked in (
       found .0,
       (
         found .1,
