@@ -1,11 +1,11 @@
 -- `kinphlor::empty_nonce_ring` meets its contract.
 -- Assumes nothing.
-use mathlib.Core.Path.{ap, sym, _∙_}
+use mathlib.Core.Path.{_≡_, ap, sym, _∙_}
 use mathlib.Core.Bool.{Bool, _&&_}
 use lib.Dec.{eqb}
 use borrow.Author.Needs.{needs}
 use borrow.Author.Tests.{eq-eqb, ne-eqb}
-use Rattle.siv.specs.Answer.{Outcome, first}
+use Rattle.siv.specs.Answer.{Outcome, first, withoutLength, outcomeOf}
 use Rattle.siv.specs.Ring.{ringRows}
 use Rattle.siv.proofs.Laws.{told-refused, passed}
 use Rattle.kinphlor.specs.Interface.{emptyNonceRing}
@@ -15,6 +15,10 @@ use Rattle.kinphlor.proofs.empty_nonce_ring.Tie as tie
 judge-ring-requires : tie.Need-judge-ring-requires
 judge-ring-requires c κs = search needs
 
+-- the given ring is what was judged
+judged : (c : tie.After-judge-ring) → outcomeOf (c .judge-ring .result) 0 ≡ withoutLength (first (ringRows (c .before .args .key-len) (c .before .args .ring-len)))
+judged c = c .judge-ring .ensures
+
 enum-told : tie.Need-enum-told
 enum-told c = search needs
 
@@ -22,9 +26,8 @@ returns : tie.Need-returns
 unfolding emptyNonceRing
 returns c =
     let args = c .before .before .before .args in
-    let judged = c .before .before .judge-ring in
     let due = ne-eqb (first (ringRows (args .key-len) (args .ring-len))) 0
-    (λ z. told-refused (judged .result) (c .before .match .keys1) (ap (λ (o : Outcome). o .number) (judged .ensures) ∙ z)) in
+    (λ z. told-refused (c .before .before .judge-ring .result) (c .before .match .keys1) (ap (λ (o : Outcome). o .number) (judged (c .before .before)) ∙ z)) in
     sym (ap (λ (t : Bool). t && eqb (args .nonce-len) 0) due)
 
 enum-told-2 : tie.Need-enum-told-2
@@ -34,8 +37,7 @@ returns-2 : tie.Need-returns-2
 unfolding emptyNonceRing
 returns-2 c =
     let args = c .before .before .before .args in
-    let judged = c .before .before .judge-ring in
-    let none = eq-eqb (first (ringRows (args .key-len) (args .ring-len))) 0 (passed (judged .result) _ (c .before .match .keys2) (judged .ensures)) in
+    let none = eq-eqb (first (ringRows (args .key-len) (args .ring-len))) 0 (passed (c .before .before .judge-ring .result) _ (c .before .match .keys2) (judged (c .before .before))) in
     sym (ap (λ (t : Bool). t && eqb (args .nonce-len) 0) none)
 
 pub empty-nonce-ring-spec : {M : Type 1} → statement M

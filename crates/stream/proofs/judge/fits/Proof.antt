@@ -9,7 +9,7 @@ use borrow.Author.Needs.{needs}
 use borrow.Author.Tests.{eqb-true, not-true, not-false, eq-eqb, ne-eqb, lt-ltb, le-ltb}
 use Rattle.aes.specs.Aes.{isWidth}
 use Rattle.s2v.specs.S2v.{tailLength}
-use Rattle.stream.specs.State.{allZero, keptFits, fits}
+use Rattle.stream.specs.State.{allZero, writtenLimit, keptFits, fits}
 use Rattle.stream.proofs.judge.fits.Statement.{statement}
 use Rattle.stream.proofs.judge.fits.Tie as tie
 
@@ -38,11 +38,15 @@ returns-3 c = simp (eq-eqb _ _ (c .before .before .before .before .if1 .left), w
 written-limit-requires : tie.Need-written-limit-requires
 written-limit-requires c κs = search needs
 
+-- and the most that it may have written is
+limited : (c : tie.After-written-limit) → let args = c .before .before .before .before .before .before .before .args in writtenLimit (args .wanted) (args .s .total) ≡ c .written-limit .result
+limited c = sym (c .written-limit .ensures)
+
 returns-4 : tie.Need-returns-4
 unfolding fits
 returns-4 c =
     let args = c .before .before .before .before .before .before .before .before .before .args in
-    let past = subst (λ (m : ℕ). m < args .s .written) (c .before .before .written-limit .ensures) (c .if4 .taken) in
+    let past = subst (λ (m : ℕ). m < args .s .written) (sym (limited (c .before .before))) (c .if4 .taken) in
     simp (eq-eqb _ _ (c .before .before .before .before .before .before .before .if1 .left), wide (c .before .before .before .before .before .before) ∙ not-false _ (c .before .before .before .before .before .if2 .left), le-ltb _ _ (c .before .before .before .if3 .left), lt-ltb _ _ past)
 
 -- past stage, width, total and written, the tail's length, the kept block and the tail's unused bytes decide
@@ -52,7 +56,7 @@ tail-decides : (c : tie.Else4)
 unfolding fits
 tail-decides c =
     let args = c .before .before .before .before .before .before .before .before .before .args in
-    let within = subst (λ (m : ℕ). args .s .written ≤ m) (c .before .before .written-limit .ensures) (c .if4 .left) in
+    let within = subst (λ (m : ℕ). args .s .written ≤ m) (sym (limited (c .before .before))) (c .if4 .left) in
     simp (eq-eqb _ _ (c .before .before .before .before .before .before .before .if1 .left), wide (c .before .before .before .before .before .before) ∙ not-false _ (c .before .before .before .before .before .if2 .left), le-ltb _ _ (c .before .before .before .if3 .left), le-ltb _ _ within) refl
 
 is-tail-len-requires : tie.Need-is-tail-len-requires

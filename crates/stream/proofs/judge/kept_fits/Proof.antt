@@ -1,6 +1,6 @@
 -- `stream::judge::kept_fits` meets its contract.
 -- Assumes nothing.
-use mathlib.Core.Path.{_≡_, ap, sym, _∙_}
+use mathlib.Core.Path.{_≡_, refl, ap, sym, _∙_}
 use mathlib.Core.Bool.{not, _||_}
 use Prim.Native.Nat.{ℕ, _%_}
 use lib.Dec.{eqb}
@@ -33,7 +33,7 @@ zero-from-requires : tie.Need-zero-from-requires
 zero-from-requires c κs = search needs
 
 returns-2 : tie.Need-returns-2
-returns-2 c = c .zero-from .ensures ∙ sym (by-place (c .before .before .before .before) ∙ simp (eq-eqb _ _ (c .before .before .before .if1 .left)))
+returns-2 c = c .zero-from .ensures ∙ sym (by-place (c .before .before .before .before) ∙ simp (eq-eqb _ _ (c .before .before .before .if1 .left)) refl)
 
 pub kept-fits-spec : {M : Type 1} → statement M
 kept-fits-spec =
