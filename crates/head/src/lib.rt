@@ -1,8 +1,10 @@
 // A prepared head: a key and the first strings of a header list, worked through once; any number of stream states begin from it.
+mod admitted;
 pub mod judge;
-mod work;
 
-ghost use Rattle.head.specs.Head.{DidMake, makeHead, extendHead};
+ghost use mathlib.Core.Path.{_≡_};
+ghost use Rattle.siv.specs.Answer.{outcomeOf};
+ghost use Rattle.head.specs.Head.{zeroHead, DidMake, makeHead, extendHead};
 use aes::RoundKeys;
 use octets::Block;
 use siv::Answer;
@@ -30,6 +32,31 @@ pub struct Made {
     pub head: Head,
 }
 
+// The head that comes with a refusal: all fields zero.
+fn zero_head() -> Head
+    ensures { λ r. ⌜ r ≡ zeroHead ⌝ }
+{
+    Head {
+        width: 0,
+        mac_keys: [0u8; 240],
+        ctr_keys: [0u8; 240],
+        l: [0u8; 16],
+        d: [0u8; 16],
+        count: 0,
+    }
+}
+
+// A refusal, with that head and no work.
+fn refused(answer: Answer) -> Made
+    ensures { λ r. ⌜ DidMake (record { outcome = outcomeOf answer 0; head = zeroHead }) r ⌝ }
+{
+    Made {
+        answer,
+        work: 0,
+        head: zero_head(),
+    }
+}
+
 impl Head {
     // A head from a key and the first strings of a header list. A refusal comes with a head that is all zero.
     pub fn make(key: &[u8], header: &[u8], lens: &[u32]) -> Made
@@ -37,9 +64,9 @@ impl Head {
     {
         let answer = siv::judge::judge_header(key.len(), lens, header.len());
         if let Answer::Refused(_) = answer {
-            return work::refused(answer);
+            return refused(answer);
         }
-        work::head_of(key, header, lens)
+        admitted::head_of(key, header, lens)
     }
 
     // The head with the next strings of its header list. A refusal comes with a head that is all zero.
@@ -48,8 +75,8 @@ impl Head {
     {
         let answer = judge::judge_rest(self, lens, rest.len());
         if let Answer::Refused(_) = answer {
-            return work::refused(answer);
+            return refused(answer);
         }
-        work::extended(self, rest, lens)
+        admitted::extended(self, rest, lens)
     }
 }

@@ -1,6 +1,6 @@
 // Whole sealing and opening, AES-SIV as RFC 5297 has it, with document 01's answers; opening under a ring of keys too.
+mod admitted;
 pub mod judge;
-mod work;
 
 ghost use mathlib.Core.Path.{_≡_};
 ghost use Prim.Native.Nat.{_*_, _^_, _≤_};
@@ -96,7 +96,7 @@ pub fn seal(
     if let Answer::Refused(_) = answer {
         return Report { answer, work: 0 };
     }
-    let work = work::seal_admitted(key, header, lens, input, output);
+    let work = admitted::seal_admitted(key, header, lens, input, output);
     octets::zero_at(scratch, 0, judge::scratch_need(n));
     Report {
         answer: Answer::Ok(n + TAG_LEN),
@@ -127,9 +127,9 @@ pub fn open(
     if let Answer::Refused(_) = answer {
         return Report { answer, work: 0 };
     }
-    let tried = work::open_admitted(key, header, lens, input, scratch);
+    let tried = admitted::open_admitted(key, header, lens, input, scratch);
     Report {
-        answer: work::deliver(tried.genuine, y - TAG_LEN, output, scratch),
+        answer: admitted::deliver(tried.genuine, y - TAG_LEN, output, scratch),
         work: tried.work,
     }
 }
@@ -164,9 +164,9 @@ pub fn open_ring(
         };
     }
     let slots = ring.len() / key_len;
-    let found = work::first_slot(key_len, slots, ring, header, lens, input, scratch);
+    let found = admitted::first_slot(key_len, slots, ring, header, lens, input, scratch);
     let slot = found.slot;
-    let answer = work::deliver(slot < slots, y - TAG_LEN, output, scratch);
+    let answer = admitted::deliver(slot < slots, y - TAG_LEN, output, scratch);
     if slot < slots {
         return RingAnswer {
             answer,

@@ -8,7 +8,7 @@ ghost use Rattle.stream.specs.State.{ended, start};
 ghost use Rattle.stream.specs.Steps.{DidStep, refusedStep, beginBy};
 use crate::Step;
 use crate::Stream;
-use crate::work;
+use crate::ended;
 use head::Head;
 use head::Made;
 use octets::Block;
@@ -49,7 +49,7 @@ pub(crate) fn begun(made: Made, stage: u8, v: Block) -> Step
     if let Answer::Refused(_) = answer {
         return Step {
             answer,
-            state: work::ended(),
+            state: ended(),
             work: 0,
         };
     }
@@ -67,13 +67,13 @@ pub(crate) fn untagged(before: Answer) -> Step
     if let Answer::Refused(_) = before {
         return Step {
             answer: before,
-            state: work::ended(),
+            state: ended(),
             work: 0,
         };
     }
     Step {
         answer: Answer::Refused(Refusal::SealedLength),
-        state: work::ended(),
+        state: ended(),
         work: 0,
     }
 }

@@ -1,10 +1,12 @@
 // Piecewise sealing and opening: a stream state goes in by value and comes back with the answer.
+mod admitted;
 mod begin;
 mod judge;
 mod tail;
-mod work;
 
+ghost use mathlib.Core.Path.{_≡_};
 ghost use mathlib.Core.List.{[]};
+ghost use Rattle.stream.specs.State.{ended};
 ghost use Rattle.stream.specs.Steps.{DidStep, beginSealer, beginOpener, beginSealerFrom, beginOpenerFrom, addStep, turnStep, writeStep, closeStep, feedStep, finishStep};
 use aes::RoundKeys;
 use head::Head;
@@ -50,6 +52,27 @@ pub struct Step {
     pub answer: Answer,
     pub state: Stream,
     pub work: usize,
+}
+
+// The ended state: all fields zero.
+pub(crate) fn ended() -> Stream
+    ensures { λ r. ⌜ r ≡ ended ⌝ }
+{
+    Stream {
+        stage: 0,
+        width: 0,
+        mac_keys: [0u8; 240],
+        ctr_keys: [0u8; 240],
+        l: [0u8; 16],
+        d: [0u8; 16],
+        chain: [0u8; 16],
+        v: [0u8; 16],
+        kept: [0u8; 16],
+        total: 0,
+        written: 0,
+        tail_len: 0,
+        tail: [0u8; 31],
+    }
 }
 
 impl Stream {
@@ -131,7 +154,7 @@ impl Stream {
                 work: 0,
             };
         }
-        let tag = work::tag_of_state(self);
+        let tag = admitted::tag_of_state(self);
         let v = tag.block;
         octets::store(output, 0, v);
         self.stage = 2;
@@ -156,7 +179,7 @@ impl Stream {
                 work: 0,
             };
         }
-        let end = work::stream_at(self, self.written, piece, output, 0);
+        let end = admitted::stream_at(self, self.written, piece, output, 0);
         let kept = end.block;
         self.kept = kept;
         self.written = self.written + n;
@@ -174,7 +197,7 @@ impl Stream {
         if judge::closes(self) {
             return Step {
                 answer: Answer::Ok(0),
-                state: work::ended(),
+                state: ended(),
                 work: 0,
             };
         }
@@ -199,7 +222,7 @@ impl Stream {
             };
         }
         let at = self.total;
-        let end = work::stream_at(self, at, piece, output, at);
+        let end = admitted::stream_at(self, at, piece, output, at);
         let kept = end.block;
         self.kept = kept;
         let absorbed = tail::absorb(self, &output[at..at + n]);
@@ -231,19 +254,19 @@ impl Stream {
         }
         let total = self.total;
         let v = self.v;
-        let tag = work::tag_of_state(self);
+        let tag = admitted::tag_of_state(self);
         let t = tag.block;
         if octets::same_block(t, v) {
             return Step {
                 answer: Answer::Ok(total),
-                state: work::ended(),
+                state: ended(),
                 work: tag.work,
             };
         }
         octets::zero_at(output, 0, total);
         Step {
             answer: Answer::Refused(Refusal::Forged),
-            state: work::ended(),
+            state: ended(),
             work: tag.work,
         }
     }
