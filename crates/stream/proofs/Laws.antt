@@ -124,7 +124,7 @@ module _ (test : Bool) (a b : StepResult) {step : Step} {last : List ℕ} where
 pub refused : (a : Answer) (n : ℕ) (done : StepResult) (s : Stream) (output : List ℕ) → (outcomeOf a 0 .number ≡ 0 → ⊥) → outcomeOf a 0 ≡ withoutLength n
     → DidStep (settle n done s output) (record { answer = a; work = 0; state = s }) output
 refused a n done s output k e =
-    picked-else (eqb n 0) _ _ (ne-eqb n 0 (λ z. k (ap (λ (o : Outcome). o .number) e ∙ z))) (record { outcome = e; state = refl; output = refl })
+    picked-else (eqb n 0) done (refusedStep n s output) (ne-eqb n 0 (λ z. k (ap (λ (o : Outcome). o .number) e ∙ z))) (record { outcome = e; state = refl; output = refl })
 
 pub done : (n : ℕ) (result : StepResult) (s : Stream) (output : List ℕ) {step : Step} {last : List ℕ} → n ≡ 0 → DidStep result step last → DidStep (settle n result s output) step last
 done n result s output e d = picked (eqb n 0) _ _ (eq-eqb n 0 e) d
