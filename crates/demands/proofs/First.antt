@@ -16,7 +16,7 @@ use Rattle.siv.specs.declared.Answer.the-variants.{Ok, Refused}
 use Rattle.siv.specs.declared.Refusal.{Refusal}
 use Rattle.siv.specs.declared.Refusal.the-variants.{KeyLength, HeaderCount, HeaderLengths, TooLong, SealedLength, OutputShort, ScratchShort, Forged, State, EmptyNonce, RingLength}
 use Rattle.siv.specs.Answer.{Outcome, Row, row, first, success, withoutLength, forged, numberOf, outcomeOf}
-use Rattle.siv.specs.Calls.{CallResult, isKeyLength, headerRows, openRows, sealTable, sealNumber, sealCall, openTable, openNumber, openCall}
+use Rattle.siv.specs.Calls.{CallResult, refusedCall, isKeyLength, headerRows, openRows, sealTable, sealNumber, sealCall, openTable, openNumber, openCall}
 use Rattle.siv.specs.Ring.{slotCount, slotKey, ringRows, RingResult, openSlot, opensAt}
 use Rattle.siv.specs.Siv.{genuine, genuineWork}
 use Rattle.siv.specs.Work.{blocksOfAll, blockWork}
@@ -95,12 +95,9 @@ module _ (rest : List Row) (nonce : ℕ) (key output scratch : List ℕ) (call :
       not-ten : call .outcome .number ≡ 10 → ⊥
       not-ten z = first-not 10 table l (λ p. omega (arith, p)) (sym e ∙ z)
 
-      ten : CallResult
-      ten = record { outcome = withoutLength 10; output = output; scratch = scratch }
-
       by-call : (n : ℕ) → (isKeyLength (length key) && eqb nonce 0) ≡ false → first table ≡ n → FirstDue (rowsFromC nonce table) n → FirstFromC table nonce output scratch call (fromC nonce key output scratch call)
       by-call n off number due =
-          let same : fromC nonce key output scratch call ≡ call = ap (λ (t : Bool). cond t ten call) off in
+          let same : fromC nonce key output scratch call ≡ call = ap (λ (t : Bool). cond t (refusedCall 10 output scratch) call) off in
           let same-number : fromC nonce key output scratch call .outcome .number ≡ call .outcome .number = ap (λ (r : CallResult). r .outcome .number) same in
           record {
             ordered = k;
@@ -113,7 +110,7 @@ module _ (rest : List Row) (nonce : ℕ) (key output scratch : List ℕ) (call :
       go false a b z =
           by-call 1 (ap (λ (t : Bool). t && eqb nonce 0) a) (ap (λ (t : Bool). cond (not t) 1 (first rest)) a) (here (ap not a))
       go true a true z =
-          let same : fromC nonce key output scratch call ≡ ten = ap (λ (t : Bool). cond t ten call) (ap₂ _&&_ a z) in
+          let same : fromC nonce key output scratch call ≡ refusedCall 10 output scratch = ap (λ (t : Bool). cond t (refusedCall 10 output scratch) call) (ap₂ _&&_ a z) in
           let same-number : fromC nonce key output scratch call .outcome .number ≡ 10 = ap (λ (r : CallResult). r .outcome .number) same in
           record {
             ordered = k;

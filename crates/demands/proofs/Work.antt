@@ -14,7 +14,7 @@ use Rattle.s2v.specs.S2v.{tailLength}
 use Rattle.octets.specs.Octets.{put, same}
 use Rattle.ctr.specs.Counter.{begunBlock, pieceWork}
 use Rattle.siv.specs.Answer.{Outcome, Row, row, first, success, withoutLength}
-use Rattle.siv.specs.Calls.{CallResult, isKeyLength, limit, sealTable, sealNumber, sealCall, openNumber, openCall}
+use Rattle.siv.specs.Calls.{CallResult, refusedCall, isKeyLength, limit, sealTable, sealNumber, sealCall, openNumber, openCall}
 use Rattle.siv.specs.Siv.{ctrKey}
 use Rattle.siv.specs.Work.{sixteenths, blocksOf, blocksOfAll, blockWork, plannedWork}
 use Rattle.siv.proofs.Laws.{first-not, seal-admits, open-admits, open-passed, open-forged, length-streamed}
@@ -71,10 +71,7 @@ from-c : (key output scratch : List ℕ) (ad nonce n : ℕ) (call : CallResult) 
 unfolding fromC emptyNonce plannedFromC
 from-c key output scratch ad nonce n call r unkeyed = go (isKeyLength (length key)) unkeyed (eqb nonce 0)
   where
-    ten : CallResult
-    ten = record { outcome = withoutLength 10; output = output; scratch = scratch }
-
-    go : (k : Bool) → (k ≡ false → call .outcome .number ≡ 1) → (z : Bool) → Reported (cond (k && z) ten call) (cond z 0 (plannedWork (aeadLens ad nonce) n))
+    go : (k : Bool) → (k ≡ false → call .outcome .number ≡ 1) → (z : Bool) → Reported (cond (k && z) (refusedCall 10 output scratch) call) (cond z 0 (plannedWork (aeadLens ad nonce) n))
     go true u true = record { done = λ e. omega (arith, e); forged = λ e. omega (arith, e) }
     go true u false = r
     go false u z = record { done = λ e. absurd (omega (arith, e, u refl)); forged = λ e. absurd (omega (arith, e, u refl)) }

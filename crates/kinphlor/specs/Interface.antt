@@ -7,8 +7,8 @@ use Prim.Native.Nat.{ℕ, _+_, _*_}
 use lib.Dec.{eqb}
 use lib.ListN.{length}
 use denote.Ref.{now}
-use Rattle.siv.specs.Answer.{Outcome, first, withoutLength}
-use Rattle.siv.specs.Calls.{isKeyLength, CallResult, sealCall, openCall, Lent}
+use Rattle.siv.specs.Answer.{Outcome, first}
+use Rattle.siv.specs.Calls.{isKeyLength, CallResult, refusedCall, sealCall, openCall, Lent}
 use Rattle.siv.specs.Ring.{ringRows, RingResult, refusedRing, openRing}
 use Rattle.siv.specs.Work.{plannedWork}
 
@@ -27,7 +27,7 @@ emptyNonce keyLength nonce = isKeyLength keyLength && eqb nonce 0
 -- what the interface does: that refusal, with all lent memory untouched, or the call
 unfoldable pub fromC : ℕ → List ℕ → List ℕ → List ℕ → CallResult → CallResult
 fromC nonce key output scratch call =
-    cond (emptyNonce (length key) nonce) (record { outcome = withoutLength 10; output = output; scratch = scratch }) call
+    cond (emptyNonce (length key) nonce) (refusedCall 10 output scratch) call
 
 -- sealing and opening from C
 abbrev pub sealFromC : List ℕ → List ℕ → ℕ → ℕ → List ℕ → List ℕ → List ℕ → CallResult

@@ -9,8 +9,8 @@ use lib.ListN.{length}
 use denote.Ref.{now}
 use Rattle.octets.specs.Octets.{part}
 use Rattle.siv.specs.declared.RingAnswer.{RingAnswer}
-use Rattle.siv.specs.Answer.{Row, row, first, withoutLength}
-use Rattle.siv.specs.Calls.{isKeyLength, CallResult, DidCall, openCall, Lent}
+use Rattle.siv.specs.Answer.{Row, row, first}
+use Rattle.siv.specs.Calls.{isKeyLength, CallResult, refusedCall, DidCall, openCall, Lent}
 
 -- whether n bytes are one to four whole keys of the stated length
 unfoldable pub isRing : ℕ → ℕ → Bool
@@ -42,9 +42,9 @@ pub record RingResult : Type 0 where
   pub slot : ℕ
   pub call : CallResult
 
--- a refusal with slot 0 and all lent memory untouched
+-- a refusal, with slot 0
 abbrev pub refusedRing : ℕ → List ℕ → List ℕ → RingResult
-refusedRing n output scratch = record { slot = 0; call = record { outcome = withoutLength n; output = output; scratch = scratch } }
+refusedRing n output scratch = record { slot = 0; call = refusedCall n output scratch }
 
 -- a ring's call gave what its definition says
 pub record DidRing (result : RingResult) (given : RingAnswer) (lastOutput lastScratch : List ℕ) : Type 0 where
