@@ -81,7 +81,7 @@ pub added-work : (s : Stream) (n : ℕ) → addedWork s n ≡ chained (s .total 
 unfolding addedWork
 added-work s n = chain-work _ ∙ ap₂ _-_ (passed-chained (s .total + n)) (passed-chained (s .total))
 
-left : (n : ℕ) → blocksOf (tailLength n) ≡ blocksOf n - chained n
+pub left : (n : ℕ) → blocksOf (tailLength n) ≡ blocksOf n - chained n
 left n = go (decLt n 16)
   where
     go : Dec (n < 16) → blocksOf (tailLength n) ≡ blocksOf n - chained n

@@ -2,34 +2,45 @@
 -- Assumes nothing.
 use mathlib.Core.Path.{_≡_, refl, ap, ap₂, sym, _∙_}
 use mathlib.Core.Bool.{Bool, true, false, not, cond, and-false, true≢false, _&&_, _||_}
-use mathlib.Core.List.{List, [], _∷_, _++_}
-use Prim.Native.Nat.{ℕ, _+_, _-_, _%_, _≤_}
+use mathlib.Core.List.{List, [], _∷_, _++_, append-nil}
+use Prim.Native.Nat.{ℕ, _+_, _-_, _*_, _%_, _≤_}
 use native.Mathlib.Nat.{zero-add}
 use native.Mathlib.Omega.{arith}
+use native.Mathlib.Decide.{decLe}
 use lib.Dec.{eqb, ltb}
-use lib.ListN.{length, take, drop, length-append, take-append-drop}
-use borrow.Author.Tests.{eq-eqb, ne-eqb, le-ltb, ltb-false}
+use lib.ListN.{length, take, drop, length-append, length-take, take-append-drop, drop-of-length-le}
+use lib.Seq.{take-all}
+use borrow.Author.Tests.{eq-eqb, ne-eqb, lt-ltb, le-ltb, ltb-false}
+use Rattle.octets.specs.Octets.{put, same, xors}
 use Rattle.aes.specs.Aes.{isWidth, aes}
+use Rattle.aes.specs.Cipher.{cipher}
+use Rattle.aes.proofs.Widths.{length-cipher}
 use Rattle.s2v.specs.S2v.{tailLength}
-use Rattle.octets.specs.Octets.{put, same}
-use Rattle.ctr.specs.Counter.{begunBlock, pieceWork}
+use Rattle.s2v.proofs.Laws.{tail}
+use Rattle.ctr.specs.Counter.{xorStream, noBlock, begunBlock, leftOver, pieceWork, xorPiece, keptAfter}
+use Rattle.ctr.proofs.Laws.{xorPiece-within, xorPiece-beyond, keptAfter-within, keptAfter-beyond}
 use Rattle.siv.specs.Answer.{Outcome, Row, row, first, success, withoutLength}
 use Rattle.siv.specs.Calls.{CallResult, refusedCall, isKeyLength, limit, sealTable, sealNumber, sealCall, openNumber, openCall}
+use Rattle.siv.specs.Ring.{ringRows, slotCount, slotKey, RingResult}
 use Rattle.siv.specs.Siv.{ctrKey}
 use Rattle.siv.specs.Work.{sixteenths, blocksOf, blocksOfAll, blockWork, plannedWork}
-use Rattle.siv.proofs.Laws.{first-not, seal-admits, open-admits, open-passed, open-forged, length-streamed}
-use Rattle.siv.proofs.Lengths.{blocks-append}
+use Rattle.siv.proofs.Laws.{lacks, first-not, first-none, not-due, seal-admits, openJudged, open-admits, open-passed, open-forged, length-streamed}
+use Rattle.siv.proofs.Lengths.{blocks-append, tag-lengths}
+use Rattle.siv.proofs.Ring.{Comes, goes, stops, ring-comes}
 use Rattle.stream.specs.declared.Stream.{Stream}
-use Rattle.stream.specs.State.{ended, allZero, writtenLimit, streamPlace, keptFits, fits, added, addedWork, tagOfState, tagOfStateWork, streamedAt, streamedWith}
+use Rattle.stream.specs.State.{ended, allZero, writtenLimit, streamPlace, keptFits, fits, usedTail, added, addedWork, tagOfState, tagOfStateWork, streamedAt, keptAt, streamedWith}
 use Rattle.stream.specs.Steps.{doneStep, refusedStep, settle, addStep, turned, turnStep, wrote, writeStep, closeStep, deciphered, feedStep, finishTable, forgedStep, finishStep}
-use Rattle.kinphlor.specs.Interface.{aeadLens, emptyNonce, fromC, sealFromC, openFromC, plannedFromC}
+use Rattle.kinphlor.specs.Interface.{aeadLens, emptyNonce, fromC, sealFromC, openFromC, openRingFromC, plannedFromC}
+use Rattle.demands.specs.First.{ringTable, FirstRing}
 use Rattle.demands.specs.Model.{ModelState, fresh, wants, chained, After, wholeAccepts, modelStep, modelRun}
 use Rattle.demands.specs.Run.{Begin, sealer, opener, Start, undivided, divided, Call, add, turn, write, close, feed, finish, begun, call}
 use Rattle.demands.specs.Third.{beginWork, AsModel}
 use Rattle.demands.specs.Whole.{Admits}
-use Rattle.demands.specs.Work.{Reported, workOf, headWork, AddsUp, ownBlock, BlockWork}
+use Rattle.demands.specs.Work.{Reported, ReportedRing, workOf, headWork, AddsUp, ownBlock, BlockWork}
 use Rattle.demands.proofs.First.{answers-or-first-refusal}
 use Rattle.demands.proofs.Head.{divided-as-undivided}
+use Rattle.demands.proofs.Pieces.{left}
+use Rattle.demands.proofs.Slots.{ring-comes-from-c}
 use Rattle.demands.proofs.Steps.{modelOf, Known, adding, writing, closed, feeding, finished, known-stage, call-misfit, model-wrong, unwanted, step}
 use Rattle.demands.proofs.Third.{runs, sealer-known, opener-known, accepts-the-sealed-and-follows-the-model}
 
@@ -84,6 +95,77 @@ module _ (key header input output scratch : List ℕ) (ad nonce : ℕ) where
   opens-from-c : Reported (openFromC key header ad nonce input output scratch) (plannedFromC ad nonce (length input - 16))
   unfolding openCall openNumber
   opens-from-c = from-c key output scratch ad nonce (length input - 16) _ (opens key header (aeadLens ad nonce) input output scratch) (λ k. simp k)
+
+-- ---- a ring
+
+module _ (keyLength : ℕ) (ring bytes lens input output scratch : List ℕ) (behind : List Row) where
+  -- a ring whose rows, with those put behind them, do not refuse it reports one plan for each key that it tries
+  ring-reports : {result : RingResult} (plan : ℕ) → lacks 8 behind ≡ true
+      → Comes keyLength ring bytes lens input output scratch (first (ringRows keyLength (length ring) ++ behind)) result
+      → FirstRing keyLength ring bytes lens input output scratch (ringTable keyLength ring bytes lens input output scratch behind) result
+      → (first (ringRows keyLength (length ring) ++ behind) ≡ 0 → plannedWork lens (length input - 16) ≡ plan) → ReportedRing (slotCount keyLength (length ring)) result plan
+  unfolding openCall
+  ring-reports plan l (stops z) f p =
+      record { done = λ e. absurd (z e); forged = λ e. absurd (first-not 8 (ringRows keyLength (length ring) ++ behind) l (λ k. omega (arith, k)) e) }
+  ring-reports plan l (goes {s} z g) f p =
+      record {
+        done = λ e. ap (λ (o : Outcome). o .work) (f .done e .0) ∙ ap (λ (w : ℕ). (s + 1) * w) (as-planned (open-passed (slotKey keyLength ring s) bytes lens input output scratch e));
+        forged = λ e.
+            ap (λ (o : Outcome). o .work) (f .forged e .0) ∙ ap (λ (w : ℕ). slotCount keyLength (length ring) * w) (as-planned (open-forged (slotKey keyLength ring s) bytes lens input output scratch e));
+      }
+    where
+      as-planned : openJudged (slotKey keyLength ring s) bytes lens input output scratch ≡ 0 → blockWork lens (length input - 16) ≡ plan
+      as-planned e =
+          let admitted = open-admits (slotKey keyLength ring s) bytes lens input output scratch e in
+          planned lens (length input - 16) (admitted .few) (omega (arith, admitted .limited)) ∙ p z
+
+ring-from-c : (keyLength : ℕ) (ring header input output scratch : List ℕ) (ad nonce : ℕ)
+    → ReportedRing (slotCount keyLength (length ring)) (openRingFromC keyLength ring header ad nonce input output scratch) (plannedFromC ad nonce (length input - 16))
+unfolding plannedFromC
+ring-from-c keyLength ring header input output scratch ad nonce =
+    ring-reports keyLength ring header (aeadLens ad nonce) input output scratch (row 10 (eqb nonce 0) ∷ []) _ refl (ring-comes-from-c keyLength ring header input output scratch ad nonce)
+    (answers-or-first-refusal .openingRingFromC keyLength ring header input output scratch ad nonce)
+    (λ z. simp (not-due (eqb nonce 0) 9 0 (first-none (ringRows keyLength (length ring)) (row 10 (eqb nonce 0) ∷ []) refl z .1) .0))
+
+-- ---- a state as given
+
+tags : (s : Stream) → length (s .d) ≡ 16 → length (s .tail) ≡ 31 → tagOfStateWork s ≡ blocksOf (s .total) - chained (s .total)
+unfolding tagOfStateWork
+tags s d t =
+    let used : length (usedTail s) ≡ tailLength (s .total) = simp length-take (omega (arith, t, tail (s .total) .short)) in
+    tag-lengths (s .d) (usedTail s) d ∙ ap blocksOf used ∙ left (s .total)
+
+module _ (s : Stream) (place : ℕ) (long : length (s .kept) ≡ 16) where
+  abbrev E : List ℕ → List ℕ
+  E = cipher (s .width) (s .«ctr_keys»)
+
+  used : (piece : List ℕ)
+      → let n = leftOver place in
+      streamedAt s place piece ≡ xors (take n piece) (drop (place % 16) (s .kept)) ++ xorStream E (s .v) (place + n) (drop n piece)
+  unfolding streamedAt xorStream xors
+  used piece = go (decLe (leftOver place) (length piece))
+    where
+      n : ℕ
+      n = leftOver place
+
+      go : Dec (n ≤ length piece) → xorPiece E (s .v) (s .kept) place piece ≡ xors (take n piece) (drop (place % 16) (s .kept)) ++ xorStream E (s .v) (place + n) (drop n piece)
+      go (yes h) = xorPiece-beyond E (length-cipher _ _) (s .v) (s .kept) place piece long h
+      go (no h) =
+          let all : length piece ≤ n = omega (arith, h) in
+          xorPiece-within E (s .v) (s .kept) place piece all
+          ∙ sym (append-nil (xors piece (drop (place % 16) (s .kept))))
+          ∙ ap₂ (λ (a b : List ℕ). xors a (drop (place % 16) (s .kept)) ++ xorStream E (s .v) (place + n) b) (sym (take-all n piece all)) (sym (drop-of-length-le piece all))
+
+  stays : (n : ℕ) → keptAt s place n ≡ cond (ltb n (leftOver place)) (s .kept) (begunBlock E (s .v) (place + n))
+  unfolding keptAt
+  stays n = go (decLe (leftOver place) n)
+    where
+      go : Dec (leftOver place ≤ n) → keptAfter E (s .v) (s .kept) place n ≡ cond (ltb n (leftOver place)) (s .kept) (begunBlock E (s .v) (place + n))
+      go (yes h) = simp (le-ltb n (leftOver place) h) (keptAfter-beyond E (length-cipher _ _) (s .v) (s .kept) place n long h)
+      go (no h) =
+          let begun : (place + n) % 16 ≡ 0 → ⊥ = λ z. omega (arith, h, z) in
+          simp (lt-ltb n (leftOver place) (omega (arith, h)))
+          (keptAfter-within E (s .v) (s .kept) place n (omega (arith, h)) ∙ ap (λ (t : Bool). cond t noBlock (s .kept)) (ne-eqb ((place + n) % 16) 0 begun))
 
 -- ---- lists of calls
 
@@ -304,7 +386,12 @@ reports-and-adds-up =
       seals = seals;
       opens = opens;
       sealsFromC = seals-from-c;
+      opensRing = λ keyLength ring bytes lens input output scratch.
+          ring-reports keyLength ring bytes lens input output scratch [] _ refl (ring-comes keyLength ring bytes lens input output scratch)
+          (answers-or-first-refusal .openingRing keyLength ring bytes lens input output scratch) (λ z. refl);
       opensFromC = opens-from-c;
+      opensRingFromC = ring-from-c;
+      tags = tags;
       sealers = λ key bytes lens a start shared calls.
           adds-up key bytes lens shared a sealer calls start (accepts-the-sealed-and-follows-the-model key bytes lens a .sealers start shared calls) (sealer-known key bytes lens a shared start);
       openers = λ key bytes lens a start T shared calls t.
@@ -313,6 +400,8 @@ reports-and-adds-up =
           known-kept key bytes lens shared a sealer _ _ _ (runs key bytes lens a shared sealer calls (fresh sealer) _ shared (sealer-known key bytes lens a shared start) .1);
       openersKeep = λ key bytes lens a start T shared calls t.
           known-kept key bytes lens shared a (opener T) _ _ _ (runs key bytes lens a shared (opener T) calls (fresh (opener T)) _ shared (opener-known key bytes lens a shared start T t) .1);
+      used = λ s place piece long. used s place long piece;
+      stays = λ s place n long. stays s place long n;
       unjudged = unjudged;
       judged = λ s shared c whole some. call-misfit s shared c (misfit (wants c) s whole some);
     }
