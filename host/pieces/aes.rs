@@ -30,10 +30,10 @@ pub fn round_keys(key: &[u8]) -> [u8; 240] {
 /// How many blocks went through the cipher.
 static BLOCKS: AtomicU64 = AtomicU64::new(0);
 
-/// What some work gives, and how many blocks went through the cipher meanwhile.
-pub fn counted<T>(work: impl FnOnce() -> T) -> (T, u64) {
+/// What a function gives, and how many blocks went through the cipher meanwhile.
+pub fn counted<T>(function: impl FnOnce() -> T) -> (T, u64) {
     let before = BLOCKS.load(Ordering::Relaxed);
-    let gives = work();
+    let gives = function();
     (gives, BLOCKS.load(Ordering::Relaxed) - before)
 }
 

@@ -1,4 +1,4 @@
--- The C interface, "the host door" of document 01: whole sealing and opening with associated data and nonce, and opening under a ring of keys.
+-- The C interface, "the host door" of document 01: whole sealing and opening with associated data and nonce, and opening under a ring of keys; and their work, planned from lengths.
 -- Assumes nothing.
 use mathlib.Core.Path.{_≡_}
 use mathlib.Core.Bool.{Bool, cond, _&&_}

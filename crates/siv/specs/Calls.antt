@@ -40,7 +40,7 @@ abbrev pub openRows : ℕ → ℕ → ℕ → List Row
 openRows y output scratch =
     row 5 (ltb y 16) ∷ row 4 (ltb (limit + 16) y) ∷ row 6 (ltb output (y - 16)) ∷ row 7 (ltb scratch (scratchNeed (y - 16))) ∷ []
 
--- a key and a header list that the work can use: what the refusals leave is more
+-- a key and a header list that can be used: what the refusals leave is more
 abbrev pub Usable : List ℕ → List ℕ → List ℕ → Type 0
 Usable key bytes lens = (isKeyLength (length key) ≡ true) × (total lens ≤ length bytes) × (length lens ≤ 126)
 

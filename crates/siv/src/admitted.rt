@@ -115,12 +115,12 @@ fn opens(
     ensures work { λ r. ⌜ r .work ≡ streamedWork (now (ciphertext .entry)) + tagOfWork (now (key .entry)) (strings (now (header .entry)) (now (lens .entry))) (streamed (now (key .entry)) v (now (ciphertext .entry))) ⌝ }
     ensures text { λ _. ⌜ now (scratch .exit) ≡ put (now (scratch .entry)) 0 (streamed (now (key .entry)) v (now (ciphertext .entry))) ⌝ }
 {
-    let streamed = stream(engine, key, v, ciphertext, scratch, 0);
+    let work = stream(engine, key, v, ciphertext, scratch, 0);
     let tag = tag_of(engine, key, header, lens, &scratch[0..ciphertext.len()]);
     let t = tag.block;
     Tried {
         genuine: octets::same_block(t, v),
-        work: streamed + tag.work,
+        work: work + tag.work,
     }
 }
 

@@ -1,4 +1,4 @@
-// Whole sealing and opening, AES-SIV as RFC 5297 has it, with document 01's answers; opening under a ring of keys too.
+// Whole sealing and opening, AES-SIV as RFC 5297 has it, with document 01's answers; opening under a ring of keys too, and the work that lengths alone plan.
 mod admitted;
 pub mod judge;
 

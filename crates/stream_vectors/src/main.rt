@@ -307,6 +307,7 @@ fn kept_blocks() {
         b"  kept block of 46 written, which is used as it is",
         s.write(&[1], &mut output),
     );
+    printer::line(b"  01 under it", &output[0..1]);
     let mut s = opener(&tag);
     s.kept = [0xffu8; 16];
     show(b"  kept block of none fed", s.feed(&p, &mut output));

@@ -1,6 +1,6 @@
 -- `siv::admitted::first_slot` meets its contract: where so many slots are left, no key of those before them opened, and their work is added up.
 -- Assumes nothing.
-use mathlib.Core.Path.{_≡_, ap, sym, _∙_}
+use mathlib.Core.Path.{ap, sym, _∙_}
 use mathlib.Core.List.{List}
 use Prim.Native.Nat.{ℕ, _+_, _-_, _*_, _≤_, _<_, _^_}
 use native.Mathlib.Nat.{le-trans, le-of-eq}
