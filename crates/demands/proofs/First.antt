@@ -15,7 +15,7 @@ use Rattle.siv.specs.declared.Answer.{Answer}
 use Rattle.siv.specs.declared.Answer.the-variants.{Ok, Refused}
 use Rattle.siv.specs.declared.Refusal.{Refusal}
 use Rattle.siv.specs.declared.Refusal.the-variants.{KeyLength, HeaderCount, HeaderLengths, TooLong, SealedLength, OutputShort, ScratchShort, Forged, State, EmptyNonce, RingLength}
-use Rattle.siv.specs.Answer.{Outcome, Row, row, first, success, withoutLength, forged, numberOf, outcomeOf}
+use Rattle.siv.specs.Answer.{Outcome, Row, row, first, success, numberAlone, forged, numberOf, outcomeOf}
 use Rattle.siv.specs.Calls.{CallResult, refusedCall, isKeyLength, headerRows, openRows, sealTable, sealNumber, sealCall, openTable, openNumber, openCall}
 use Rattle.siv.specs.Ring.{slotCount, slotKey, ringRows, RingResult, openSlot, opensAt}
 use Rattle.siv.specs.Siv.{genuine, genuineWork}
@@ -188,7 +188,7 @@ module _ (keyLength : ℕ) (ring bytes lens input output scratch : List ℕ) whe
           first = subst (FirstDue (front ++ back)) (first-stop front back z) (first-due (front ++ back));
           done = λ e. absurd (z e);
           forged = λ e. absurd (first-not 8 front l8 (λ p. omega (arith, p)) e);
-          refused = λ n e m m8. (ap withoutLength e, refl, refl);
+          refused = λ n e m m8. (ap numberAlone e, refl, refl);
           slotless = λ m. refl;
         }
     by-ring k l l8 (goes {s} z g) =
@@ -242,7 +242,7 @@ rest-tag-ordered h lens restLength tagLength = refl
 
 by-head : (table : List Row) (w w′ : ℕ) (h : Head) → keeps order table ≡ true → (first table ≡ 0 → w ≡ w′) → FirstHead table (settleHead (first table) w h) w′ h
 by-head table w w′ h k works =
-    let t = settled (λ (r : MakeResult). r .outcome .number) (first table) (madeHead w h) (λ n. record { outcome = withoutLength n; head = zeroHead }) refl (λ n. refl) in
+    let t = settled (λ (r : MakeResult). r .outcome .number) (first table) (madeHead w h) (λ n. record { outcome = numberAlone n; head = zeroHead }) refl (λ n. refl) in
     record {
       ordered = k;
       first = subst (FirstDue table) (sym (t .number)) (first-due table);

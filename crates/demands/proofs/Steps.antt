@@ -15,7 +15,7 @@ use Rattle.aes.specs.Aes.{aes}
 use Rattle.cmac.specs.Cmac.{zeros}
 use Rattle.header.specs.Header.{strings}
 use Rattle.ctr.specs.Counter.{xorStream, begunBlock, pieceWork}
-use Rattle.siv.specs.Answer.{first, success, withoutLength, forged}
+use Rattle.siv.specs.Answer.{first, success, numberAlone, forged}
 use Rattle.siv.specs.Calls.{limit, scratchNeed}
 use Rattle.siv.specs.Siv.{ctrKey, tagOf, streamed, opened, genuine}
 use Rattle.siv.specs.Work.{sixteenths, blocksOf}
@@ -99,7 +99,7 @@ module _ (key bytes lens shared : List ℕ) (a : Admits key bytes lens) where
 
   -- the model's refusal, and what it says of success and of 8
   abbrev pub refusedAfter : Begin → ModelState → Call → ℕ → After
-  refusedAfter begin b c n = record { model = b; entry = record { outcome = withoutLength n; output = outputBefore key bytes lens begin shared b c } }
+  refusedAfter begin b c n = record { model = b; entry = record { outcome = numberAlone n; output = outputBefore key bytes lens begin shared b c } }
 
   abbrev pub doneAfter : Begin → ModelState → Call → ℕ → After
   doneAfter begin b c n =
@@ -142,7 +142,7 @@ module _ (key bytes lens shared : List ℕ) (a : Admits key bytes lens) where
   wrong : (begin : Begin) (b : ModelState) (s : Stream) (o : List ℕ) (c : Call) → Known key bytes lens shared begin b s o → eqb (b .stage) (wants c) ≡ false → Steps begin b s o c
   wrong begin b s o c k e =
       steps begin b s o c (refusedStep 9 s (lent o c)) (refusedAfter begin b c 9) (call-misfit s o c (misfit (wants c) s (ap (λ (n : ℕ). eqb n (wants c)) (known-stage begin b s o k) ∙ e))) (model-wrong begin b c e)
-      (ap (λ (l : List ℕ). record { outcome = withoutLength 9; output = l }) (lent-before begin b o c (known-shown begin b s o k)))
+      (ap (λ (l : List ℕ). record { outcome = numberAlone 9; output = l }) (lent-before begin b o c (known-shown begin b s o k)))
       (subst (Known key bytes lens shared begin b s) (sym (unchanged o c)) k)
 
   -- ---- the sealer's calls in the stages that they want

@@ -15,7 +15,7 @@ use Rattle.aes.specs.Aes.{aes}
 use Rattle.cmac.specs.Cmac.{zeros}
 use Rattle.header.specs.Header.{strings}
 use Rattle.ctr.specs.Counter.{xorStream}
-use Rattle.siv.specs.Answer.{Outcome, success, withoutLength}
+use Rattle.siv.specs.Answer.{Outcome, success, numberAlone}
 use Rattle.siv.specs.Calls.{limit, scratchNeed, headerRows, openCall}
 use Rattle.siv.specs.Siv.{ctrKey, tagOf, streamed, sealed, opened, genuine}
 use Rattle.siv.specs.Work.{blocksOfAll, blockWork}
@@ -175,7 +175,7 @@ module _ (key bytes lens : List ℕ) (a : Admits key bytes lens) where
         gave-by b c (refusedAfter key bytes lens shared a sealer b c n) e
         (ap (λ (l : List ℕ). soFar b ++ l) (none c (outputBefore key bytes lens sealer shared b c)) ∙ append-nil (soFar b))
       where
-        none : (c : Call) (l : List ℕ) → gaveBy c (record { outcome = withoutLength n; output = l }) ≡ []
+        none : (c : Call) (l : List ℕ) → gaveBy c (record { outcome = numberAlone n; output = l }) ≡ []
         none (add piece) l = refl
         none (turn output) l = refl
         none (write piece output) l = refl

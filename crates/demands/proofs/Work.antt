@@ -19,7 +19,7 @@ use Rattle.s2v.specs.S2v.{tailLength}
 use Rattle.s2v.proofs.Laws.{tail}
 use Rattle.ctr.specs.Counter.{xorStream, noBlock, begunBlock, leftOver, pieceWork, xorPiece, keptAfter}
 use Rattle.ctr.proofs.Laws.{xorPiece-within, xorPiece-beyond, keptAfter-within, keptAfter-beyond}
-use Rattle.siv.specs.Answer.{Outcome, Row, row, first, success, withoutLength}
+use Rattle.siv.specs.Answer.{Outcome, Row, row, first, success, numberAlone}
 use Rattle.siv.specs.Calls.{CallResult, refusedCall, isKeyLength, limit, sealTable, sealNumber, sealCall, openNumber, openCall}
 use Rattle.siv.specs.Ring.{ringRows, slotCount, slotKey, RingResult}
 use Rattle.siv.specs.Siv.{ctrKey}
@@ -328,17 +328,17 @@ unfolding fits keptFits
 any-fits wanted s kept begun = simp (ne-eqb (streamPlace wanted s % 16) 0 begun) refl
 
 -- what a call answers goes by its number
-by-number : (n m w : ℕ) (next s : Stream) (last o : List ℕ) → settle n (doneStep m w next last) s o .outcome ≡ cond (eqb n 0) (success m w) (withoutLength n)
+by-number : (n m w : ℕ) (next s : Stream) (last o : List ℕ) → settle n (doneStep m w next last) s o .outcome ≡ cond (eqb n 0) (success m w) (numberAlone n)
 by-number n m w next s last o = go (eqb n 0)
   where
-    go : (b : Bool) → cond b (doneStep m w next last) (refusedStep n s o) .outcome ≡ cond b (success m w) (withoutLength n)
+    go : (b : Bool) → cond b (doneStep m w next last) (refusedStep n s o) .outcome ≡ cond b (success m w) (numberAlone n)
     go true = refl
     go false = refl
 
 same-answer : (n n′ m w : ℕ) (next next′ s s′ : Stream) (last last′ o : List ℕ) → n ≡ n′
     → settle n (doneStep m w next last) s o .outcome ≡ settle n′ (doneStep m w next′ last′) s′ o .outcome
 same-answer n n′ m w next next′ s s′ last last′ o e =
-    by-number n m w next s last o ∙ ap (λ (k : ℕ). cond (eqb k 0) (success m w) (withoutLength k)) e ∙ sym (by-number n′ m w next′ s′ last′ o)
+    by-number n m w next s last o ∙ ap (λ (k : ℕ). cond (eqb k 0) (success m w) (numberAlone k)) e ∙ sym (by-number n′ m w next′ s′ last′ o)
 
 module _ (s : Stream) (kept shared : List ℕ) where
   -- the state with another kept block

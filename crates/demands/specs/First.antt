@@ -11,7 +11,7 @@ use Rattle.aes.specs.Aes.{isWidth}
 use Rattle.cmac.specs.Cmac.{zeros}
 use Rattle.header.specs.Header.{total, strings}
 use Rattle.siv.specs.declared.Answer.{Answer}
-use Rattle.siv.specs.Answer.{Outcome, success, withoutLength, forged, Row, row, outcomeOf}
+use Rattle.siv.specs.Answer.{Outcome, success, numberAlone, forged, Row, row, outcomeOf}
 use Rattle.siv.specs.Calls.{CallResult, scratchNeed, headerRows, openRows, sealTable, sealCall, openTable, openCall}
 use Rattle.siv.specs.Ring.{slotCount, slotKey, ringRows, RingResult, openRing}
 use Rattle.siv.specs.Siv.{sealed, opened, genuine}
@@ -57,7 +57,7 @@ module _ (key bytes lens input output scratch : List ℕ) where
         → Leaves (sealCall key bytes lens input output scratch) (success (length input + 16) (blockWork lens (length input)))
         (put output 0 (sealed key (strings bytes lens) input)) (cleared (length input))
     pub refused : (n : ℕ) → sealCall key bytes lens input output scratch .outcome .number ≡ n → (n ≡ 0 → ⊥)
-        → Leaves (sealCall key bytes lens input output scratch) (withoutLength n) output scratch
+        → Leaves (sealCall key bytes lens input output scratch) (numberAlone n) output scratch
 
   pub record FirstOpen : Type 0 where
     pub ordered : keeps order (openTable key bytes lens input output scratch) ≡ true
@@ -69,7 +69,7 @@ module _ (key bytes lens input output scratch : List ℕ) where
         → Leaves (openCall key bytes lens input output scratch) (forged (blockWork lens (length input - 16)))
         (put output 0 (replicate (length input - 16) 0)) (cleared (length input - 16))
     pub refused : (n : ℕ) → openCall key bytes lens input output scratch .outcome .number ≡ n → (n ≡ 0 → ⊥) → (n ≡ 8 → ⊥)
-        → Leaves (openCall key bytes lens input output scratch) (withoutLength n) output scratch
+        → Leaves (openCall key bytes lens input output scratch) (numberAlone n) output scratch
 
 -- ---- the C interface
 
@@ -82,7 +82,7 @@ rowsFromC nonce (r ∷ rs) = r ∷ row 10 (eqb nonce 0) ∷ rs
 pub record FirstFromC (table : List Row) (nonce : ℕ) (output scratch : List ℕ) (call result : CallResult) : Type 0 where
   pub ordered : keeps order (rowsFromC nonce table) ≡ true
   pub first : FirstDue (rowsFromC nonce table) (result .outcome .number)
-  pub empty : result .outcome .number ≡ 10 → Leaves result (withoutLength 10) output scratch
+  pub empty : result .outcome .number ≡ 10 → Leaves result (numberAlone 10) output scratch
   pub otherwise : (result .outcome .number ≡ 10 → ⊥) → result ≡ call
 
 -- ---- a ring of keys
@@ -116,7 +116,7 @@ module _ (keyLength : ℕ) (ring bytes lens input output scratch : List ℕ) whe
         → Leaves (result .call) (success (length input - 16) (triedKeys (result .slot + 1))) (put output 0 (opened (slotKey keyLength ring (result .slot)) input)) scratchCleared
     pub forged : result .call .outcome .number ≡ 8
         → Leaves (result .call) (forged (triedKeys (slotCount keyLength (length ring)))) (put output 0 (replicate (length input - 16) 0)) scratchCleared
-    pub refused : (n : ℕ) → result .call .outcome .number ≡ n → (n ≡ 0 → ⊥) → (n ≡ 8 → ⊥) → Leaves (result .call) (withoutLength n) output scratch
+    pub refused : (n : ℕ) → result .call .outcome .number ≡ n → (n ≡ 0 → ⊥) → (n ≡ 8 → ⊥) → Leaves (result .call) (numberAlone n) output scratch
     pub slotless : (result .call .outcome .number ≡ 0 → ⊥) → result .slot ≡ 0
 
 -- ---- the number that C gets
@@ -139,7 +139,7 @@ pub record FirstHead (table : List Row) (result : MakeResult) (work : ℕ) (comp
   pub ordered : keeps order table ≡ true
   pub first : FirstDue table (result .outcome .number)
   pub done : result .outcome .number ≡ 0 → result ≡ madeHead work complete
-  pub refused : (n : ℕ) → result .outcome .number ≡ n → (n ≡ 0 → ⊥) → result ≡ record { outcome = withoutLength n; head = zeroHead }
+  pub refused : (n : ℕ) → result .outcome .number ≡ n → (n ≡ 0 → ⊥) → result ≡ record { outcome = numberAlone n; head = zeroHead }
 
 -- ---- piecewise calls
 

@@ -7,7 +7,7 @@ use lib.Dec.{eqb, ltb}
 use lib.ListN.{length, drop, replicate}
 use Rattle.octets.specs.Octets.{put}
 use Rattle.header.specs.Header.{strings}
-use Rattle.siv.specs.Answer.{Row, row, first, withoutLength}
+use Rattle.siv.specs.Answer.{Row, row, first, numberAlone}
 use Rattle.siv.specs.Calls.{limit, scratchNeed, openNumber}
 use Rattle.siv.specs.Siv.{tagOf, streamed, opened}
 use Rattle.siv.specs.Work.{sixteenths, blocksOf}
@@ -143,7 +143,7 @@ module _ (key bytes lens : List ℕ) where
           model = modelAfter b c;
           entry = record { outcome = record { number = n; count = cond (eqb n 0) (countAfter b c) 0; work = workAfter b c }; output = outputAfter b c };
         })
-        (record { model = b; entry = record { outcome = withoutLength n; output = outputBefore b c } })
+        (record { model = b; entry = record { outcome = numberAlone n; output = outputBefore b c } })
 
     abbrev pub modelRun : ModelState → List Call → ModelRun
     modelRun b [] = record { entries = []; model = b }

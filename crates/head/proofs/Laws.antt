@@ -20,7 +20,7 @@ use Rattle.header.proofs.Laws.{length-strings}
 use Rattle.s2v.specs.S2v.{absorbStrings, absorbWork, headerResult}
 use Rattle.s2v.proofs.Laws.{absorb-append}
 use Rattle.siv.specs.declared.Answer.{Answer}
-use Rattle.siv.specs.Answer.{Outcome, first, outcomeOf, withoutLength}
+use Rattle.siv.specs.Answer.{Outcome, first, outcomeOf, numberAlone}
 use Rattle.siv.specs.Siv.{macKey, ctrKey}
 use Rattle.siv.specs.Work.{blocksOfAll}
 use Rattle.siv.proofs.Laws.{not-due}
@@ -130,10 +130,10 @@ module _ (n w : ℕ) (h : Head) where
   pub settle-made : n ≡ 0 → settleHead n w h ≡ madeHead w h
   settle-made e = simp (eq-eqb n 0 e)
 
-  pub settle-refused : (n ≡ 0 → ⊥) → settleHead n w h ≡ record { outcome = withoutLength n; head = zeroHead }
+  pub settle-refused : (n ≡ 0 → ⊥) → settleHead n w h ≡ record { outcome = numberAlone n; head = zeroHead }
   settle-refused z = simp (ne-eqb n 0 z)
 
-  pub make-refused : (a : Answer) {made : Made} → (outcomeOf a 0 .number ≡ 0 → ⊥) → outcomeOf a 0 ≡ withoutLength n → DidMake (record { outcome = outcomeOf a 0; head = zeroHead }) made
+  pub make-refused : (a : Answer) {made : Made} → (outcomeOf a 0 .number ≡ 0 → ⊥) → outcomeOf a 0 ≡ numberAlone n → DidMake (record { outcome = outcomeOf a 0; head = zeroHead }) made
       → DidMake (settleHead n w h) made
   make-refused a {made} k e d =
       subst (λ (r : MakeResult). DidMake r made) (ap (λ (o : Outcome). record { outcome = o; head = zeroHead }) e ∙ sym (settle-refused (λ p. k (ap (λ (o : Outcome). o .number) e ∙ p)))) d

@@ -11,7 +11,7 @@ use Rattle.siv.specs.declared.Refusal.{Refusal}
 use Rattle.siv.specs.declared.Refusal.the-variants.{KeyLength, HeaderCount, HeaderLengths, TooLong, SealedLength, OutputShort, ScratchShort, Forged, State, EmptyNonce, RingLength}
 use Rattle.siv.specs.declared.Report.{Report}
 use Rattle.siv.specs.declared.RingAnswer.{RingAnswer}
-use Rattle.siv.specs.Answer.{Outcome, numberOf, outcomeOf, withoutLength}
+use Rattle.siv.specs.Answer.{Outcome, numberOf, outcomeOf, numberAlone}
 use Rattle.siv.specs.Calls.{CallResult, DidCall}
 use Rattle.siv.specs.Ring.{DidRing, openRing}
 use Rattle.siv.proofs.Laws.{outcome-with}
@@ -32,7 +32,7 @@ number-most EmptyNonce = omega arith
 number-most RingLength = omega arith
 
 module _ (nonce : ℕ) (key output scratch : List ℕ) (call : CallResult) where
-  pub nonce-refused : {r : ℕ} → emptyNonce (length key) nonce ≡ true → r ≡ packed (withoutLength 10) → DidPacked (fromC nonce key output scratch call) r output scratch
+  pub nonce-refused : {r : ℕ} → emptyNonce (length key) nonce ≡ true → r ≡ packed (numberAlone 10) → DidPacked (fromC nonce key output scratch call) r output scratch
   unfolding fromC
   nonce-refused e p = record { answer = simp e p; output = simp e; scratch = simp e }
 
@@ -45,7 +45,7 @@ module _ (nonce : ℕ) (key output scratch : List ℕ) (call : CallResult) where
 -- ---- a ring of keys
 
 module _ (keyLength : ℕ) (ring header : List ℕ) (ad nonce : ℕ) (input output scratch : List ℕ) where
-  pub ring-nonce-refused : {r : ℕ} → emptyNonceRing keyLength (length ring) nonce ≡ true → r ≡ packed (withoutLength 10)
+  pub ring-nonce-refused : {r : ℕ} → emptyNonceRing keyLength (length ring) nonce ≡ true → r ≡ packed (numberAlone 10)
       → DidPackedRing (openRingFromC keyLength ring header ad nonce input output scratch) r output scratch
   unfolding openRingFromC
   ring-nonce-refused e p = record { answer = simp e (p ∙ sym (add-zero _)); output = simp e; scratch = simp e }

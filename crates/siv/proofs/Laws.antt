@@ -25,7 +25,7 @@ use Rattle.siv.specs.declared.Answer.the-variants.{Ok, Refused}
 use Rattle.siv.specs.declared.Report.{Report}
 use Rattle.siv.specs.declared.Refusal.{Refusal}
 use Rattle.siv.specs.declared.Refusal.the-variants.{KeyLength, HeaderCount, HeaderLengths, TooLong, SealedLength, OutputShort, ScratchShort, Forged, State, EmptyNonce, RingLength}
-use Rattle.siv.specs.Answer.{Outcome, Row, row, first, numberOf, outcomeOf, success, withoutLength, forged}
+use Rattle.siv.specs.Answer.{Outcome, Row, row, first, numberOf, outcomeOf, success, numberAlone, forged}
 use Rattle.siv.specs.Calls.{isKeyLength, limit, scratchNeed, headerRows, sealRows, openRows, Usable, DidCall, sealNumber, sealCall, openNumber, openCall}
 use Rattle.siv.specs.Siv.{tagOf, tagOfWork, streamed, streamedWork, sealed, sealedWork, opened, genuine, genuineWork}
 use Rattle.siv.proofs.Answer.{the-type}
@@ -140,22 +140,22 @@ told-ok (Ok n) k = refl
 told-ok (Refused r) k = let z : _≡_ {A = ℕ} 1 0 = k in absurd (omega arith)
 
 -- a refusal has length 0
-pub told-length : (a : Answer) → OneOf (1 ∷ []) (declared.tagOf the-type a) → outcomeOf a 0 ≡ withoutLength (outcomeOf a 0 .number)
+pub told-length : (a : Answer) → OneOf (1 ∷ []) (declared.tagOf the-type a) → outcomeOf a 0 ≡ numberAlone (outcomeOf a 0 .number)
 told-length (Ok n) k = let z : _≡_ {A = ℕ} 0 1 = k in absurd (omega arith)
 told-length (Refused r) k = refl
 
 -- past a judgement none was due
-pub passed : (a : Answer) (n : ℕ) → OneOf (0 ∷ []) (declared.tagOf the-type a) → outcomeOf a 0 ≡ withoutLength n → n ≡ 0
+pub passed : (a : Answer) (n : ℕ) → OneOf (0 ∷ []) (declared.tagOf the-type a) → outcomeOf a 0 ≡ numberAlone n → n ≡ 0
 passed a n k e = sym (ap (λ (o : Outcome). o .number) e) ∙ told-ok a k
 
 -- a refusal stays due whatever rows come behind
-pub still-due : (a : Answer) (rows rest : List Row) → OneOf (1 ∷ []) (declared.tagOf the-type a) → outcomeOf a 0 ≡ withoutLength (first rows) → outcomeOf a 0 ≡ withoutLength (first (rows ++ rest))
-still-due a rows rest k e = e ∙ ap withoutLength (sym (first-stop rows rest (λ z. told-refused a k (ap (λ (o : Outcome). o .number) e ∙ z))))
+pub still-due : (a : Answer) (rows rest : List Row) → OneOf (1 ∷ []) (declared.tagOf the-type a) → outcomeOf a 0 ≡ numberAlone (first rows) → outcomeOf a 0 ≡ numberAlone (first (rows ++ rest))
+still-due a rows rest k e = e ∙ ap numberAlone (sym (first-stop rows rest (λ z. told-refused a k (ap (λ (o : Outcome). o .number) e ∙ z))))
 
 -- past a judgement the rows behind decide
-pub next-due : (a : Answer) (rows rest : List Row) → lacks 0 rows ≡ true → OneOf (0 ∷ []) (declared.tagOf the-type a) → outcomeOf a 0 ≡ withoutLength (first rows)
-    → withoutLength (first rest) ≡ withoutLength (first (rows ++ rest))
-next-due a rows rest l k e = ap withoutLength (sym (first-pass rows rest l (passed a (first rows) k e)))
+pub next-due : (a : Answer) (rows rest : List Row) → lacks 0 rows ≡ true → OneOf (0 ∷ []) (declared.tagOf the-type a) → outcomeOf a 0 ≡ numberAlone (first rows)
+    → numberAlone (first rest) ≡ numberAlone (first (rows ++ rest))
+next-due a rows rest l k e = ap numberAlone (sym (first-pass rows rest l (passed a (first rows) k e)))
 
 -- with another work number and length are the same
 pub outcome-with : (a : Answer) (w w′ : ℕ) {o : Outcome} {v : ℕ} → outcomeOf a w ≡ o → w′ ≡ v → outcomeOf a w′ ≡ record { number = o .number; count = o .count; work = v }
@@ -236,7 +236,7 @@ module _ (key bytes lens input output scratch : List ℕ) where
       go true e = omega (arith, seal-admits (eqb-true _ 0 e) .limited)
       go false e = omega arith
 
-  pub seal-refused : (answer : Answer) → (outcomeOf answer 0 .number ≡ 0 → ⊥) → outcomeOf answer 0 ≡ withoutLength (sealNumber key bytes lens input output scratch)
+  pub seal-refused : (answer : Answer) → (outcomeOf answer 0 .number ≡ 0 → ⊥) → outcomeOf answer 0 ≡ numberAlone (sealNumber key bytes lens input output scratch)
       → DidCall (sealCall key bytes lens input output scratch) (record { answer = answer; work = 0 }) output scratch
   unfolding sealCall
   seal-refused answer k e =
@@ -359,14 +359,14 @@ module _ (key bytes lens input output scratch : List ℕ) where
   unfolding rows
   not-eight e = first-not 8 rows refl (λ q. omega arith) e
 
-  pub open-refused : (answer : Answer) → (outcomeOf answer 0 .number ≡ 0 → ⊥) → outcomeOf answer 0 ≡ withoutLength openJudged
+  pub open-refused : (answer : Answer) → (outcomeOf answer 0 .number ≡ 0 → ⊥) → outcomeOf answer 0 ≡ numberAlone openJudged
       → DidCall (openCall key bytes lens input output scratch) (record { answer = answer; work = 0 }) output scratch
   unfolding openCall number
   open-refused answer k e =
       let due : openJudged ≡ 0 → ⊥ = λ z. k (ap (λ (o : Outcome). o .number) e ∙ z) in
       let off : eqb number 0 ≡ false = ne-eqb number 0 (λ z. due (sym (number-due due) ∙ z)) in
       let off8 : eqb number 8 ≡ false = ne-eqb number 8 (λ z. not-eight (sym (number-due due) ∙ z)) in
-      record { outcome = simp (off, off8) (e ∙ ap withoutLength (sym (number-due due))); output = simp (off, off8); scratch = simp (off, off8) }
+      record { outcome = simp (off, off8) (e ∙ ap numberAlone (sym (number-due due))); output = simp (off, off8); scratch = simp (off, off8) }
 
   -- a refusal of the judgement is the call's number
   pub open-due : (openJudged ≡ 0 → ⊥) → openCall key bytes lens input output scratch .outcome .number ≡ openJudged

@@ -15,7 +15,7 @@ use Rattle.octets.specs.Octets.{put}
 use Rattle.header.specs.Header.{strings}
 use Rattle.siv.specs.declared.Answer.{Answer}
 use Rattle.siv.specs.declared.RingAnswer.{RingAnswer}
-use Rattle.siv.specs.Answer.{Outcome, Row, first, outcomeOf, success, withoutLength, forged}
+use Rattle.siv.specs.Answer.{Outcome, Row, first, outcomeOf, success, numberAlone, forged}
 use Rattle.siv.specs.Calls.{isKeyLength, limit, scratchNeed, headerRows, openRows, DidCall}
 use Rattle.siv.specs.Ring.{isRing, slotCount, slotKey, firstSlot, triedWork, ringRows, RingResult, refusedRing, DidRing, openSlot, opensAt, workAt, openSlotWith, openRing}
 use Rattle.siv.specs.Siv.{opened, genuine, genuineWork}
@@ -384,7 +384,7 @@ module _ (keyLength : ℕ) (ring bytes lens input output scratch : List ℕ) whe
           ))
 
   -- a refusal of the judgement is the ring's
-  pub ring-refused : (answer : Answer) → (outcomeOf answer 0 .number ≡ 0 → ⊥) → outcomeOf answer 0 ≡ withoutLength ringJudged
+  pub ring-refused : (answer : Answer) → (outcomeOf answer 0 .number ≡ 0 → ⊥) → outcomeOf answer 0 ≡ numberAlone ringJudged
       → DidRing (openRing keyLength ring bytes lens input output scratch) (record { answer = answer; slot = 0; work = 0 }) output scratch
   ring-refused answer k e = go (ring-comes keyLength ring bytes lens input output scratch)
     where
@@ -393,7 +393,7 @@ module _ (keyLength : ℕ) (ring bytes lens input output scratch : List ℕ) whe
       go (stops z) =
           record {
             slot = refl;
-            call = record { outcome = e ∙ ap withoutLength (first-stop (ringRows keyLength (length ring)) restRows z); output = refl; scratch = refl };
+            call = record { outcome = e ∙ ap numberAlone (first-stop (ringRows keyLength (length ring)) restRows z); output = refl; scratch = refl };
           }
       go (goes {s} z g) =
           let pass : ringJudged ≡ restJudged = first-pass (ringRows keyLength (length ring)) restRows refl z in
@@ -401,7 +401,7 @@ module _ (keyLength : ℕ) (ring bytes lens input output scratch : List ℕ) whe
           let judged = slot-judged z s within in
           let due : openJudged (slotKey keyLength ring s) bytes lens input output scratch ≡ 0 → ⊥ = λ y. k (ap (λ (o : Outcome). o .number) e ∙ pass ∙ sym judged ∙ y) in
           let none = ring-idle z s within due in
-          let refused = open-refused (slotKey keyLength ring s) bytes lens input output scratch answer k (e ∙ ap withoutLength (pass ∙ sym judged)) in
+          let refused = open-refused (slotKey keyLength ring s) bytes lens input output scratch answer k (e ∙ ap numberAlone (pass ∙ sym judged)) in
           let closed : opensAt keyLength ring bytes lens input output scratch s ≡ false =
           ne-eqb (openSlot keyLength ring bytes lens input output scratch s .outcome .number) 0 (λ y. due (sym (open-due (slotKey keyLength ring s) bytes lens input output scratch due) ∙ y)) in
           record {

@@ -32,8 +32,8 @@ numberOf RingLength = 11
 abbrev pub success : ℕ → ℕ → Outcome
 success n w = record { number = 0; count = n; work = w }
 
-abbrev pub withoutLength : ℕ → Outcome
-withoutLength n = record { number = n; count = 0; work = 0 }
+abbrev pub numberAlone : ℕ → Outcome
+numberAlone n = record { number = n; count = 0; work = 0 }
 
 abbrev pub forged : ℕ → Outcome
 forged w = record { number = 8; count = 0; work = w }

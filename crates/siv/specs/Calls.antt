@@ -11,7 +11,7 @@ use denote.Triple.Both.{Both}
 use Rattle.octets.specs.Octets.{put}
 use Rattle.header.specs.Header.{total, strings}
 use Rattle.siv.specs.declared.Report.{Report}
-use Rattle.siv.specs.Answer.{Outcome, withoutLength, Row, row, first, outcomeOf}
+use Rattle.siv.specs.Answer.{Outcome, numberAlone, Row, row, first, outcomeOf}
 use Rattle.siv.specs.Siv.{sealed, sealedWork, opened, genuine, genuineWork}
 
 -- keys have 32, 48 or 64 bytes
@@ -52,7 +52,7 @@ pub record CallResult : Type 0 where
 
 -- a refusal with all lent memory untouched
 abbrev pub refusedCall : ℕ → List ℕ → List ℕ → CallResult
-refusedCall n output scratch = record { outcome = withoutLength n; output = output; scratch = scratch }
+refusedCall n output scratch = record { outcome = numberAlone n; output = output; scratch = scratch }
 
 -- a call gave what its definition says
 pub record DidCall (result : CallResult) (report : Report) (lastOutput lastScratch : List ℕ) : Type 0 where

@@ -16,7 +16,7 @@ use Rattle.octets.proofs.Strings.{part-to, length-xors, put-put}
 use Rattle.aes.specs.Aes.{isWidth}
 use Rattle.aes.proofs.Widths.{width, length-cipher}
 use Rattle.aes.specs.Cipher.{cipher}
-use Rattle.cmac.specs.Cmac.{zeros, chain}
+use Rattle.cmac.specs.Cmac.{chain}
 use Rattle.s2v.specs.S2v.{tailLength}
 use Rattle.s2v.proofs.Laws.{Tail, tail, tail-short, tail-long}
 use Rattle.ctr.specs.Counter.{keyStreamWork, xorStream, noBlock, begunBlock, leftOver, pieceWork, xorPiece, keptAfter}
@@ -24,7 +24,7 @@ use Rattle.ctr.proofs.Laws.{pieceWork-within, pieceWork-beyond, pieceWork-fresh
 use Rattle.siv.specs.declared.Answer.{Answer}
 use Rattle.siv.specs.declared.Answer.the-variants.{Ok, Refused}
 use Rattle.siv.specs.declared.Refusal.the-variants.{Forged}
-use Rattle.siv.specs.Answer.{Outcome, Row, row, first, outcomeOf, success, withoutLength, forged}
+use Rattle.siv.specs.Answer.{Outcome, Row, row, first, outcomeOf, success, numberAlone, forged}
 use Rattle.siv.specs.Calls.{limit}
 use Rattle.siv.proofs.Laws.{lacks, outcome-number, outcome-work, not-due, first-not, first-pass, first-stop, first-append}
 use Rattle.head.specs.declared.Head.{Head}
@@ -121,7 +121,7 @@ module _ (test : Bool) (a b : StepResult) {step : Step} {last : List ℕ} where
   picked-else : test ≡ false → DidStep b step last → DidStep (cond test a b) step last
   picked-else e d = subst (λ (t : Bool). DidStep (cond t a b) step last) (sym e) d
 
-pub refused : (a : Answer) (n : ℕ) (done : StepResult) (s : Stream) (output : List ℕ) → (outcomeOf a 0 .number ≡ 0 → ⊥) → outcomeOf a 0 ≡ withoutLength n
+pub refused : (a : Answer) (n : ℕ) (done : StepResult) (s : Stream) (output : List ℕ) → (outcomeOf a 0 .number ≡ 0 → ⊥) → outcomeOf a 0 ≡ numberAlone n
     → DidStep (settle n done s output) (record { answer = a; work = 0; state = s }) output
 refused a n done s output k e =
     picked-else (eqb n 0) done (refusedStep n s output) (ne-eqb n 0 (λ z. k (ap (λ (o : Outcome). o .number) e ∙ z))) (record { outcome = e; state = refl; output = refl })
@@ -244,9 +244,9 @@ module _ (s : Stream) (long : length (s .kept) ≡ 16) (place : ℕ) (text l : L
         e
         ∙ ap (put l at) (from-kept ∙ ap (λ (t : List ℕ). xors t (drop (place % 16) (s .kept))) (take-all n text (omega arith)) ∙ sym (xorPiece-within F (s .v) (s .kept) place text (omega arith)))
 
-    pub kept-within : cond (eqb ((place + n) % 16) 0) zeros (s .kept) ≡ keptAt s place (length text)
+    pub kept-within : cond (eqb ((place + n) % 16) 0) noBlock (s .kept) ≡ keptAt s place (length text)
     unfolding keptAt F
-    kept-within = ap (λ (m : ℕ). cond (eqb ((place + m) % 16) 0) zeros (s .kept)) all ∙ sym (keptAfter-within F (s .v) (s .kept) place (length text) (omega arith))
+    kept-within = ap (λ (m : ℕ). cond (eqb ((place + m) % 16) 0) noBlock (s .kept)) all ∙ sym (keptAfter-within F (s .v) (s .kept) place (length text) (omega arith))
 
     pub work-within : 0 ≡ pieceWork place (length text)
     work-within = sym (pieceWork-within place (length text) (omega arith))
@@ -317,14 +317,14 @@ module _ (s : Stream) (output : List ℕ) where
   number : ℕ
   number = first (finishTable s output)
 
-  pub finish-refused : (a : Answer) → (outcomeOf a 0 .number ≡ 0 → ⊥) → outcomeOf a 0 ≡ withoutLength (first (finishRows s (length output)))
+  pub finish-refused : (a : Answer) → (outcomeOf a 0 .number ≡ 0 → ⊥) → outcomeOf a 0 ≡ numberAlone (first (finishRows s (length output)))
       → DidStep (finishStep s output) (record { answer = a; work = 0; state = s }) output
   unfolding finishStep judged forgery number
   finish-refused a k e =
       let due : first judged ≡ 0 → ⊥ = λ z. k (ap (λ (o : Outcome). o .number) e ∙ z) in
       let stops : number ≡ first judged = first-stop judged forgery due in
       let off8 : eqb number 8 ≡ false = ne-eqb number 8 (λ z. first-not 8 judged refl (λ z. omega arith) (sym stops ∙ z)) in
-      picked-else (eqb number 8) _ _ off8 (refused a number _ s output k (e ∙ ap withoutLength (sym stops)))
+      picked-else (eqb number 8) _ _ off8 (refused a number _ s output k (e ∙ ap numberAlone (sym stops)))
 
   module _ {state : Stream} (none : first (finishRows s (length output)) ≡ 0) (ends : state ≡ ended) where
     by-tag : number ≡ cond (not (same (tagOfState s) (s .v))) 8 0
@@ -346,7 +346,7 @@ module _ (s : Stream) (output : List ℕ) where
 
 -- ---- begin
 
-pub begin-refused : (a : Answer) (n : ℕ) (result : StepResult) {state : Stream} → (outcomeOf a 0 .number ≡ 0 → ⊥) → outcomeOf a 0 ≡ withoutLength n → state ≡ ended
+pub begin-refused : (a : Answer) (n : ℕ) (result : StepResult) {state : Stream} → (outcomeOf a 0 .number ≡ 0 → ⊥) → outcomeOf a 0 ≡ numberAlone n → state ≡ ended
     → DidStep (settle n result ended []) (record { answer = a; work = 0; state = state }) []
 begin-refused a n result {state} k e ends =
     subst (λ (s : Stream). DidStep (settle n result ended []) (record { answer = a; work = 0; state = s }) []) (sym ends) (refused a n result ended [] k e)
@@ -392,7 +392,7 @@ module _ (rows : List Row) (present : lacks 0 rows ≡ true) (w : ℕ) (h : Head
       kept false z = refl
 
   -- any other is refused, with 5 where no row before it is due
-  pub begins-untagged : (before : Answer) {step : Step} → eqb (length tag) 16 ≡ false → outcomeOf before 0 ≡ withoutLength (first rows)
+  pub begins-untagged : (before : Answer) {step : Step} → eqb (length tag) 16 ≡ false → outcomeOf before 0 ≡ numberAlone (first rows)
       → DidStep (refusedStep (cond (eqb (outcomeOf before 0 .number) 0) 5 (outcomeOf before 0 .number)) ended []) step []
       → DidStep (beginBy (first (rows ++ tagRows (length tag))) w h 3 tag) step []
   begins-untagged before {step} e o d =

@@ -6,9 +6,8 @@ ghost use lib.Dec.{eqb};
 ghost use lib.ListN.{length};
 ghost use Rattle.octets.specs.Octets.{put};
 ghost use Rattle.aes.specs.Work.{Reports};
-ghost use Rattle.cmac.specs.Cmac.{zeros};
 ghost use Rattle.s2v.specs.S2v.{tailLength};
-ghost use Rattle.ctr.specs.Counter.{pieceWork};
+ghost use Rattle.ctr.specs.Counter.{noBlock, pieceWork};
 ghost use Rattle.siv.specs.Calls.{limit};
 ghost use Rattle.stream.specs.State.{tagOfState, tagOfStateWork, streamedAt, keptAt};
 use crate::Stream;
@@ -33,7 +32,7 @@ pub(crate) fn tag_of_state(s: Stream) -> Counted
 
 // The block that is kept where no other was begun: none once it is used up.
 fn still_kept(kept: Block, end: usize) -> Block
-    ensures { λ r. ⌜ r ≡ cond (eqb (end % 16) 0) zeros kept ⌝ }
+    ensures { λ r. ⌜ r ≡ cond (eqb (end % 16) 0) noBlock kept ⌝ }
 {
     if end % 16 == 0 {
         return [0u8; 16];

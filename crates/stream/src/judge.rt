@@ -5,7 +5,7 @@ ghost use Prim.Native.Nat.{_+_, _≤_};
 ghost use lib.Dec.{eqb, ltb};
 ghost use lib.ListN.{length, drop};
 ghost use Rattle.s2v.specs.S2v.{tailLength};
-ghost use Rattle.siv.specs.Answer.{outcomeOf, first, withoutLength};
+ghost use Rattle.siv.specs.Answer.{outcomeOf, first, numberAlone};
 ghost use Rattle.stream.specs.State.{allZero, writtenLimit, streamPlace, keptFits, fits};
 ghost use Rattle.stream.specs.Steps.{addRows, turnRows, writeRows, feedRows, finishRows};
 use crate::Stream;
@@ -122,7 +122,7 @@ pub(crate) fn is_tag(tag: &[u8]) -> bool
 
 // The refusals of add.
 pub(crate) fn judge_add(s: Stream, n: usize) -> Answer
-    ensures { λ r. ⌜ outcomeOf r 0 ≡ withoutLength (first (addRows s n)) ⌝ }
+    ensures { λ r. ⌜ outcomeOf r 0 ≡ numberAlone (first (addRows s n)) ⌝ }
 {
     if !fits(1, s) {
         return Answer::Refused(Refusal::State);
@@ -135,7 +135,7 @@ pub(crate) fn judge_add(s: Stream, n: usize) -> Answer
 
 // The refusals of turn.
 pub(crate) fn judge_turn(s: Stream, output: usize) -> Answer
-    ensures { λ r. ⌜ outcomeOf r 0 ≡ withoutLength (first (turnRows s output)) ⌝ }
+    ensures { λ r. ⌜ outcomeOf r 0 ≡ numberAlone (first (turnRows s output)) ⌝ }
 {
     if !fits(1, s) {
         return Answer::Refused(Refusal::State);
@@ -148,7 +148,7 @@ pub(crate) fn judge_turn(s: Stream, output: usize) -> Answer
 
 // The refusals of write.
 pub(crate) fn judge_write(s: Stream, n: usize, output: usize) -> Answer
-    ensures { λ r. ⌜ outcomeOf r 0 ≡ withoutLength (first (writeRows s n output)) ⌝ }
+    ensures { λ r. ⌜ outcomeOf r 0 ≡ numberAlone (first (writeRows s n output)) ⌝ }
 {
     if !fits(2, s) {
         return Answer::Refused(Refusal::State);
@@ -177,7 +177,7 @@ pub(crate) fn closes(s: Stream) -> bool
 
 // The refusals of feed.
 pub(crate) fn judge_feed(s: Stream, n: usize, output: usize) -> Answer
-    ensures { λ r. ⌜ outcomeOf r 0 ≡ withoutLength (first (feedRows s n output)) ⌝ }
+    ensures { λ r. ⌜ outcomeOf r 0 ≡ numberAlone (first (feedRows s n output)) ⌝ }
 {
     if !fits(3, s) {
         return Answer::Refused(Refusal::State);
@@ -193,7 +193,7 @@ pub(crate) fn judge_feed(s: Stream, n: usize, output: usize) -> Answer
 
 // The refusals of finish but for a forged string.
 pub(crate) fn judge_finish(s: Stream, output: usize) -> Answer
-    ensures { λ r. ⌜ outcomeOf r 0 ≡ withoutLength (first (finishRows s output)) ⌝ }
+    ensures { λ r. ⌜ outcomeOf r 0 ≡ numberAlone (first (finishRows s output)) ⌝ }
 {
     if !fits(3, s) {
         return Answer::Refused(Refusal::State);
