@@ -31,7 +31,7 @@ pub record Reported (result : CallResult) (work : ℕ) : Type 0 where
   pub done : result .outcome .number ≡ 0 → result .outcome .work ≡ work
   pub forged : result .outcome .number ≡ 8 → result .outcome .work ≡ work
 
--- a ring's call reports one for each key that it tried: up to the slot that it gives, or all
+-- a ring's call reports that work once for each key that it tried: up to the slot that it gives, or all
 pub record ReportedRing (slots : ℕ) (result : RingResult) (work : ℕ) : Type 0 where
   pub done : result .call .outcome .number ≡ 0 → result .call .outcome .work ≡ (result .slot + 1) * work
   pub forged : result .call .outcome .number ≡ 8 → result .call .outcome .work ≡ slots * work
@@ -65,7 +65,7 @@ module _ (key bytes lens : List ℕ) where
 
 -- What a user of the work, and of the kept block, may rely on.
 pub record BlockWork : Type 0 where
-  -- a call reports what was planned from lengths alone: from Rattle
+  -- a call reports what was planned from lengths alone, and a ring's that much for each key that it tried: from Rattle
   pub seals : (key bytes lens input output scratch : List ℕ) → Reported (sealCall key bytes lens input output scratch) (plannedWork lens (length input))
   pub opens : (key bytes lens input output scratch : List ℕ) → Reported (openCall key bytes lens input output scratch) (plannedWork lens (length input - 16))
   pub opensRing : (keyLength : ℕ) (ring bytes lens input output scratch : List ℕ)
@@ -93,7 +93,7 @@ pub record BlockWork : Type 0 where
   pub used : (s : Stream) (place : ℕ) (piece : List ℕ) → length (s .kept) ≡ 16
       → let n = leftOver place in
       streamedAt s place piece ≡ xors (take n piece) (drop (place % 16) (s .kept)) ++ xorStream (cipher (s .width) (s .«ctr_keys»)) (s .v) (place + n) (drop n piece)
-  -- it stays until it is used up
+  -- it stays until it is used up, and then the block that is kept is the key stream's own; that a kept block has 16 bytes is its type's
   pub stays : (s : Stream) (place n : ℕ) → length (s .kept) ≡ 16
       → keptAt s place n ≡ cond (ltb n (leftOver place)) (s .kept) (begunBlock (cipher (s .width) (s .«ctr_keys»)) (s .v) (place + n))
   -- where one is begun a given state may keep any block: what the calls answer does not depend on it
