@@ -160,11 +160,11 @@ pub fn xor_from(
     ensures text { λ _. ⌜ now (dst .exit) ≡ put (now (dst .entry)) at (xorPiece (cipher width (now (keys .entry))) v noBlock (16 * i) (now (src .entry))) ⌝ }
 {
     let n = src.len() / 16;
-    let whole = xor_blocks(engine, width, keys, v, i, n, src, dst, at);
+    let work = xor_blocks(engine, width, keys, v, i, n, src, dst, at);
     if src.len() % 16 == 0 {
         return Counted {
             block: [0u8; 16],
-            work: whole,
+            work,
         };
     }
     let end = xor_with_block(
@@ -180,7 +180,7 @@ pub fn xor_from(
     let block = end.block;
     Counted {
         block,
-        work: whole + end.work,
+        work: work + end.work,
     }
 }
 

@@ -11,7 +11,7 @@ use lib.ListN.{length, take, drop, replicate, length-append, length-take, length
 use lib.Seq.{drop-append-le, drop-drop, drop-at}
 use borrow.Author.Tests.{eq-eqb, le-ltb}
 use Rattle.octets.specs.Octets.{put}
-use Rattle.octets.proofs.Strings.{take-put, drop-put}
+use Rattle.octets.proofs.Strings.{length-put, take-put, drop-put}
 use Rattle.aes.specs.Aes.{aes}
 use Rattle.aes.specs.Cipher.{cipher}
 use Rattle.aes.specs.KeyExpansion.{roundKeys}
@@ -26,14 +26,13 @@ use Rattle.ctr.proofs.Laws.{stream-work, xorStream-append, xorPiece-own, keptAf
 use Rattle.siv.specs.Calls.{isKeyLength, limit}
 use Rattle.siv.specs.Siv.{macKey, ctrKey, tagOf, streamed}
 use Rattle.siv.specs.Work.{sixteenths, blocksOf}
-use Rattle.siv.proofs.Laws.{KeyHalves, halves, aes-cipher}
+use Rattle.siv.proofs.Laws.{KeyHalves, halves, aes-cipher, length-streamed}
 use Rattle.siv.proofs.Lengths.{tag-lengths}
 use Rattle.head.specs.Head.{headOf}
 use Rattle.stream.specs.declared.Stream.{Stream}
 use Rattle.stream.specs.State.{start, allZero, writtenLimit, keptFits, fits, usedTail, tailOf, passedBlocks, stateWith, added, addedWork, tagOfState, tagOfStateWork, streamedAt, keptAt}
 use Rattle.stream.proofs.Laws.{Cut, cut, passed-more}
 use Rattle.demands.specs.Model.{chained}
-use Rattle.siv.proofs.Laws.{length-streamed}
 
 with-same : (s : Stream) {c c′ : List ℕ} {n n′ : ℕ} {t t′ : List ℕ} → c ≡ c′ → n ≡ n′ → t ≡ t′ → stateWith s c n (tailLength n) t ≡ stateWith s c′ n′ (tailLength n′) t′
 with-same s {c} {c′} {n} {n′} {t} {t′} p q r =
@@ -81,12 +80,18 @@ pub added-work : (s : Stream) (n : ℕ) → addedWork s n ≡ chained (s .total 
 unfolding addedWork
 added-work s n = chain-work _ ∙ ap₂ _-_ (passed-chained (s .total + n)) (passed-chained (s .total))
 
-pub left : (n : ℕ) → blocksOf (tailLength n) ≡ blocksOf n - chained n
+left : (n : ℕ) → blocksOf (tailLength n) ≡ blocksOf n - chained n
 left n = go (decLt n 16)
   where
     go : Dec (n < 16) → blocksOf (tailLength n) ≡ blocksOf n - chained n
     go (yes h) = let e : tailLength n ≡ n = tail-short n h in omega arith
     go (no h) = let e : tailLength n ≡ 16 + n % 16 = tail-long n (omega arith) in omega arith
+
+pub tag-of-state-work : (s : Stream) → length (s .d) ≡ 16 → length (s .tail) ≡ 31 → tagOfStateWork s ≡ blocksOf (s .total) - chained (s .total)
+unfolding tagOfStateWork
+tag-of-state-work s d t =
+    let used : length (usedTail s) ≡ tailLength (s .total) = simp length-take (omega (arith, t, tail (s .total) .short)) in
+    tag-lengths (s .d) (usedTail s) d ∙ ap blocksOf used ∙ left (s .total)
 
 module _ (key : List ℕ) (ss : List (List ℕ)) where
   E : List ℕ → List ℕ
@@ -161,10 +166,6 @@ module _ (key : List ℕ) (ss : List (List ℕ)) where
         (ap (λ (t : List ℕ). tailOf (drop (16 * n) t)) text
         ∙ ap tailOf (drop-drop (16 * n) (16 * p) (A ++ B) ∙ ap (λ (k : ℕ). drop k (A ++ B)) place))
 
-    -- its work is that of the blocks that join the chain
-    pub join-work : (n : ℕ) → addedWork (stateOf stage v kept written A) n ≡ chained (length A + n) - chained (length A)
-    join-work n = added-work (stateOf stage v kept written A) n
-
     unused : allZero (drop (tailLength (length A)) (stateOf stage v kept written A .tail)) ≡ true
     unfolding before
     unused =
@@ -208,13 +209,10 @@ module _ (key : List ℕ) (ss : List (List ℕ)) where
 
     -- its work is what the chain leaves of the plaintext's blocks
     pub tag-state-work : (stage : ℕ) (v kept : List ℕ) (written : ℕ) (P : List ℕ) → tagOfStateWork (stateOf stage v kept written P) ≡ blocksOf (length P) - chained (length P)
-    unfolding tagOfStateWork before E
+    unfolding before E
     tag-state-work stage v kept written P =
-        let d : List ℕ = headerResult E (subkeys (zeroCipher E)) ss in
-        tag-lengths d (usedTail (stateOf stage v kept written P)) (length-headerResult E (length-cipher _ _) (subkeys (zeroCipher E)) ss)
-        ∙ ap (λ (t : List ℕ). blocksOf (length t)) (tail-state stage v kept written P)
-        ∙ ap blocksOf (long stage v kept written P)
-        ∙ left (length P)
+        tag-of-state-work (stateOf stage v kept written P) (length-headerResult E (length-cipher _ _) (subkeys (zeroCipher E)) ss)
+        (length-put (replicate 31 0) 0 (drop (16 * passedBlocks (length P)) P) (room stage v kept written P))
 
     -- the state's cipher for the key stream is AES under the key's second half
     stream-cipher : cipher (length key / 2) (roundKeys (ctrKey key)) ≡ aes (ctrKey key)

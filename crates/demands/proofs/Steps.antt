@@ -27,7 +27,7 @@ use Rattle.stream.proofs.Laws.{length-streamedAt}
 use Rattle.demands.specs.Model.{ModelState, wants, chained, After, wholeAccepts, shown, outputBefore, outputAfter, modelAfter, countAfter, workAfter, modelStep}
 use Rattle.demands.specs.Run.{Begin, sealer, opener, Call, add, turn, write, close, feed, finish, call, lent, sharedAfter}
 use Rattle.demands.specs.Whole.{Admits}
-use Rattle.demands.proofs.Pieces.{begun-none, begun-zero, piece-work, stateOf, addingState, writingState, feedingState, join, join-work, fits-state, tag-state, tag-state-work, stream-state, kept-state, streamed-append, streamed-rest}
+use Rattle.demands.proofs.Pieces.{begun-none, begun-zero, piece-work, added-work, stateOf, addingState, writingState, feedingState, join, fits-state, tag-state, tag-state-work, stream-state, kept-state, streamed-append, streamed-rest}
 use Rattle.demands.proofs.Whole.{judged}
 
 -- ---- a call in a stage that it does not want
@@ -170,7 +170,7 @@ module _ (key bytes lens shared : List ℕ) (a : Admits key bytes lens) where
         total = length-append A piece
 
         work : addedWork S (length piece) ≡ workAfter key bytes lens sealer shared b (add piece)
-        work = join-work key ss 1 zeros zeros 0 A (length piece) ∙ ap (λ (n : ℕ). chained n - chained (length A)) (sym total)
+        work = added-work (stateOf key ss 1 zeros zeros 0 A) (length piece) ∙ ap (λ (n : ℕ). chained n - chained (length A)) (sym total)
 
         go : (t : Bool) → ltb limit (length A + length piece) ≡ t → Steps sealer (modelOf 1 A []) (addingState key (strings bytes lens) A) shared (add piece)
         go true e = steps sealer b S shared (add piece) (refusedStep 4 S []) (refusedAfter sealer b (add piece) 4) (simp (fitting, e)) (simp (total, e)) refl (adding A within)
@@ -312,7 +312,7 @@ module _ (key bytes lens shared : List ℕ) (a : Admits key bytes lens) where
 
         work : pieceWork (length P) (length piece) + addedWork SF (length piece) ≡ workAfter key bytes lens (opener T) shared bF (feed piece)
         work =
-            ap₂ _+_ (piece-work (length P) (length piece)) (join-work key ss 3 T (begunBlock (aes (ctrKey key)) T (length P)) 0 P (length piece))
+            ap₂ _+_ (piece-work (length P) (length piece)) (added-work (stateOf key ss 3 T (begunBlock (aes (ctrKey key)) T (length P)) 0 P) (length piece))
             ∙ ap (λ (n : ℕ). (sixteenths (n + length piece) - sixteenths n) + (chained (n + length piece) - chained n)) long
             ∙ ap (λ (n : ℕ). (sixteenths n - sixteenths (length A)) + (chained n - chained (length A))) (sym total)
 

@@ -8,7 +8,7 @@ use native.Mathlib.Nat.{zero-add}
 use native.Mathlib.Omega.{arith}
 use native.Mathlib.Decide.{decLe}
 use lib.Dec.{eqb, ltb}
-use lib.ListN.{length, take, drop, length-append, length-take, take-append-drop, drop-of-length-le}
+use lib.ListN.{length, take, drop, length-append, take-append-drop, drop-of-length-le}
 use lib.Seq.{take-all}
 use borrow.Author.Tests.{eq-eqb, ne-eqb, lt-ltb, le-ltb, ltb-false}
 use Rattle.octets.specs.Octets.{put, same, xors}
@@ -16,7 +16,6 @@ use Rattle.aes.specs.Aes.{isWidth, aes}
 use Rattle.aes.specs.Cipher.{cipher}
 use Rattle.aes.proofs.Widths.{length-cipher}
 use Rattle.s2v.specs.S2v.{tailLength}
-use Rattle.s2v.proofs.Laws.{tail}
 use Rattle.ctr.specs.Counter.{xorStream, noBlock, begunBlock, leftOver, pieceWork, xorPiece, keptAfter}
 use Rattle.ctr.proofs.Laws.{xorPiece-within, xorPiece-beyond, keptAfter-within, keptAfter-beyond}
 use Rattle.siv.specs.Answer.{Outcome, Row, row, first, success, numberAlone}
@@ -25,10 +24,10 @@ use Rattle.siv.specs.Ring.{ringRows, slotCount, slotKey, RingResult}
 use Rattle.siv.specs.Siv.{ctrKey}
 use Rattle.siv.specs.Work.{sixteenths, blocksOf, blocksOfAll, blockWork, plannedWork}
 use Rattle.siv.proofs.Laws.{lacks, first-not, first-none, not-due, seal-admits, openJudged, open-admits, open-passed, open-forged, length-streamed}
-use Rattle.siv.proofs.Lengths.{blocks-append, tag-lengths}
+use Rattle.siv.proofs.Lengths.{blocks-append}
 use Rattle.siv.proofs.Ring.{Comes, goes, stops, ring-comes}
 use Rattle.stream.specs.declared.Stream.{Stream}
-use Rattle.stream.specs.State.{ended, allZero, writtenLimit, streamPlace, keptFits, fits, usedTail, added, addedWork, tagOfState, tagOfStateWork, streamedAt, keptAt, streamedWith}
+use Rattle.stream.specs.State.{ended, allZero, writtenLimit, streamPlace, keptFits, fits, added, addedWork, tagOfState, tagOfStateWork, streamedAt, keptAt, streamedWith}
 use Rattle.stream.specs.Steps.{doneStep, refusedStep, settle, addStep, turned, turnStep, wrote, writeStep, closeStep, deciphered, feedStep, finishTable, forgedStep, finishStep}
 use Rattle.kinphlor.specs.Interface.{aeadLens, emptyNonce, fromC, sealFromC, openFromC, openRingFromC, plannedFromC}
 use Rattle.demands.specs.First.{ringTable, FirstRing}
@@ -39,7 +38,7 @@ use Rattle.demands.specs.Whole.{Admits}
 use Rattle.demands.specs.Work.{Reported, ReportedRing, workOf, headWork, AddsUp, ownBlock, BlockWork}
 use Rattle.demands.proofs.First.{answers-or-first-refusal}
 use Rattle.demands.proofs.Head.{divided-as-undivided}
-use Rattle.demands.proofs.Pieces.{left}
+use Rattle.demands.proofs.Pieces.{tag-of-state-work}
 use Rattle.demands.proofs.Slots.{ring-comes-from-c}
 use Rattle.demands.proofs.Steps.{modelOf, Known, adding, writing, closed, feeding, finished, known-stage, call-misfit, model-wrong, unwanted, step}
 use Rattle.demands.proofs.Third.{runs, sealer-known, opener-known, accepts-the-sealed-and-follows-the-model}
@@ -127,13 +126,7 @@ ring-from-c keyLength ring header input output scratch ad nonce =
     (answers-or-first-refusal .openingRingFromC keyLength ring header input output scratch ad nonce)
     (λ z. simp (not-due (eqb nonce 0) 9 0 (first-none (ringRows keyLength (length ring)) (row 10 (eqb nonce 0) ∷ []) refl z .1) .0))
 
--- ---- a state as given
-
-tags : (s : Stream) → length (s .d) ≡ 16 → length (s .tail) ≡ 31 → tagOfStateWork s ≡ blocksOf (s .total) - chained (s .total)
-unfolding tagOfStateWork
-tags s d t =
-    let used : length (usedTail s) ≡ tailLength (s .total) = simp length-take (omega (arith, t, tail (s .total) .short)) in
-    tag-lengths (s .d) (usedTail s) d ∙ ap blocksOf used ∙ left (s .total)
+-- ---- the kept block of a state as given
 
 module _ (s : Stream) (place : ℕ) (long : length (s .kept) ≡ 16) where
   abbrev E : List ℕ → List ℕ
@@ -391,7 +384,7 @@ reports-and-adds-up =
           (answers-or-first-refusal .openingRing keyLength ring bytes lens input output scratch) (λ z. refl);
       opensFromC = opens-from-c;
       opensRingFromC = ring-from-c;
-      tags = tags;
+      tags = tag-of-state-work;
       sealers = λ key bytes lens a start shared calls.
           adds-up key bytes lens shared a sealer calls start (accepts-the-sealed-and-follows-the-model key bytes lens a .sealers start shared calls) (sealer-known key bytes lens a shared start);
       openers = λ key bytes lens a start T shared calls t.
