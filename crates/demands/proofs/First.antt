@@ -11,16 +11,18 @@ use lib.ListN.{length, getD}
 use borrow.Author.Tests.{eqb-true, eq-eqb, ne-eqb}
 use Rattle.cmac.specs.Cmac.{zeros}
 use Rattle.header.specs.Header.{total, strings}
-use Rattle.siv.specs.declared.Answer.{Answer}
-use Rattle.siv.specs.declared.Answer.the-variants.{Ok, Refused}
-use Rattle.siv.specs.declared.Refusal.{Refusal}
-use Rattle.siv.specs.declared.Refusal.the-variants.{KeyLength, HeaderCount, HeaderLengths, TooLong, SealedLength, OutputShort, ScratchShort, Forged, State, EmptyNonce, RingLength}
-use Rattle.siv.specs.Answer.{Outcome, Row, row, first, success, numberAlone, forged, numberOf, outcomeOf}
+use Rattle.header.specs.Blocks.{blocksOfAll}
+use Rattle.answers.specs.declared.Answer.{Answer}
+use Rattle.answers.specs.declared.Answer.the-variants.{Ok, Refused}
+use Rattle.answers.specs.declared.Refusal.{Refusal}
+use Rattle.answers.specs.declared.Refusal.the-variants.{KeyLength, HeaderCount, HeaderLengths, TooLong, SealedLength, OutputShort, ScratchShort, Forged, State, EmptyNonce, RingLength, HeaderPlan}
+use Rattle.answers.specs.Answer.{Outcome, Row, row, first, success, numberAlone, forged, numberOf, outcomeOf}
+use Rattle.answers.proofs.Laws.{lacks, first-not, first-pass, first-stop, first-none, refusal-number, outcome-work, none-where}
 use Rattle.siv.specs.Calls.{CallResult, refusedCall, isKeyLength, headerRows, openRows, sealTable, sealNumber, sealCall, openTable, openNumber, openCall}
 use Rattle.siv.specs.Ring.{slotCount, slotKey, ringRows, RingResult, openSlot, opensAt}
 use Rattle.siv.specs.Siv.{genuine, genuineWork}
-use Rattle.siv.specs.Work.{blocksOfAll, blockWork}
-use Rattle.siv.proofs.Laws.{lacks, first-not, first-pass, first-stop, first-none, refusal-number, outcome-work, none-where, header-admits, seal-admits, seal-count, openJudged, open-admits, open-passed, open-forged, open-unread, open-count}
+use Rattle.siv.specs.Work.{blockWork}
+use Rattle.siv.proofs.Laws.{header-admits, seal-admits, seal-count, openJudged, open-admits, open-passed, open-forged, open-unread, open-count}
 use Rattle.siv.proofs.Lengths.{sealed-lengths, genuine-lengths}
 use Rattle.siv.proofs.Ring.{RingWhole, ring-admits, slot-keyed, Chosen, chosen-within, chosen-closed, chosen-same, Comes, goes, stops, ring-comes, ring-idle, ring-work}
 use Rattle.head.specs.declared.Head.{Head}
@@ -320,7 +322,7 @@ finishing s output =
 -- a refusal by its number
 refusal : ℕ → Refusal
 refusal n =
-    getD (KeyLength ∷ HeaderCount ∷ HeaderLengths ∷ TooLong ∷ SealedLength ∷ OutputShort ∷ ScratchShort ∷ Forged ∷ State ∷ EmptyNonce ∷ []) (pred n) RingLength
+    getD (KeyLength ∷ HeaderCount ∷ HeaderLengths ∷ TooLong ∷ SealedLength ∷ OutputShort ∷ ScratchShort ∷ Forged ∷ State ∷ EmptyNonce ∷ RingLength ∷ []) (pred n) HeaderPlan
 
 by-number : (r : Refusal) → refusal (numberOf r) ≡ r
 unfolding refusal
@@ -335,6 +337,7 @@ by-number Forged = refl
 by-number State = refl
 by-number EmptyNonce = refl
 by-number RingLength = refl
+by-number HeaderPlan = refl
 
 answer-tells : (a b : Answer) (w w′ : ℕ) → outcomeOf a w ≡ outcomeOf b w′ → a ≡ b
 answer-tells (Ok m) (Ok n) w w′ e = ap (λ (k : ℕ). Ok k) (ap (λ (o : Outcome). o .count) e)

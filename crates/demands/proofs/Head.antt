@@ -9,15 +9,15 @@ use lib.Dec.{eqb, ltb}
 use lib.ListN.{length, take, drop, length-append, length-drop, take-append-drop}
 use lib.Seq.{length-take-le, take-at, drop-at}
 use borrow.Author.Tests.{eqb-true, eq-eqb, le-ltb}
+use Rattle.octets.proofs.Tests.{bool-ext}
 use Rattle.cmac.specs.Cmac.{zeros}
 use Rattle.header.specs.Header.{total, strings}
-use Rattle.header.proofs.Laws.{total-append, total-take, strings-append, length-strings, strings-within}
-use Rattle.octets.proofs.Tests.{bool-ext}
-use Rattle.siv.specs.Answer.{Row, first}
+use Rattle.header.specs.Blocks.{blocksOfAll}
+use Rattle.header.proofs.Laws.{total-append, total-take, strings-append, length-strings, strings-within, blocks-append}
+use Rattle.answers.specs.Answer.{Row, first}
+use Rattle.answers.proofs.Laws.{first-append}
 use Rattle.siv.specs.Calls.{headerRows}
-use Rattle.siv.specs.Work.{blocksOfAll}
-use Rattle.siv.proofs.Laws.{halves, first-append}
-use Rattle.siv.proofs.Lengths.{blocks-append}
+use Rattle.siv.proofs.Laws.{halves}
 use Rattle.head.specs.declared.Head.{Head}
 use Rattle.head.specs.Head.{headOf, headOfWork, extended, extendedWork, fitsHead, restRows, MakeResult, madeHead, settleHead, makeHead, extendHead}
 use Rattle.head.proofs.Laws.{head-lengths, extended-lengths, extended-head}

@@ -6,10 +6,10 @@ use mathlib.Core.List.{List, _++_}
 use Prim.Native.Nat.{ℕ, _+_, _*_, _≤_, _<_}
 use native.Mathlib.Omega.{arith}
 use lib.ListN.{length}
-use Rattle.siv.specs.Answer.{Row, first}
+use Rattle.answers.specs.Answer.{Row, first}
+use Rattle.answers.proofs.Laws.{first-none}
 use Rattle.siv.specs.Calls.{CallResult, limit}
 use Rattle.siv.specs.Ring.{ringRows, RingResult}
-use Rattle.siv.proofs.Laws.{first-none}
 use Rattle.siv.proofs.Ring.{Comes, comes-small}
 use Rattle.kinphlor.specs.Interface.{packed, emptyNonce, fromC, packedRing}
 use Rattle.demands.specs.First.{Parts}

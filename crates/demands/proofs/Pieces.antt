@@ -19,13 +19,13 @@ use Rattle.aes.proofs.Widths.{length-cipher}
 use Rattle.cmac.specs.declared.Subkeys.{Subkeys}
 use Rattle.cmac.specs.Cmac.{zeros, chain, subkeys, zeroCipher}
 use Rattle.cmac.proofs.Laws.{chain-work, chain-front, chain-add}
+use Rattle.header.specs.Blocks.{sixteenths, blocksOf}
 use Rattle.s2v.specs.S2v.{tailLength, headerResult, tagFrom, s2v}
 use Rattle.s2v.proofs.Laws.{tail-short, tail-long, Tail, tail, tag-tail, length-headerResult}
 use Rattle.ctr.specs.Counter.{clear, plus, xorStream, begunBlock, pieceWork, xorPiece, keptAfter}
 use Rattle.ctr.proofs.Laws.{stream-work, xorStream-append, xorPiece-own, keptAfter-own}
 use Rattle.siv.specs.Calls.{isKeyLength, limit}
 use Rattle.siv.specs.Siv.{macKey, ctrKey, tagOf, streamed}
-use Rattle.siv.specs.Work.{sixteenths, blocksOf}
 use Rattle.siv.proofs.Laws.{KeyHalves, halves, aes-cipher, length-streamed}
 use Rattle.siv.proofs.Lengths.{tag-lengths}
 use Rattle.head.specs.Head.{headOf}

@@ -12,7 +12,7 @@ use lib.ListN.{length, take, drop}
 use lib.Seq.{take-length}
 use borrow.Author.Tests.{eqb-true, eq-eqb, ne-eqb}
 use Rattle.header.specs.Header.{total, strings}
-use Rattle.siv.specs.Answer.{Outcome, first}
+use Rattle.answers.specs.Answer.{Outcome, first}
 use Rattle.siv.specs.Calls.{isKeyLength, limit, scratchNeed, openNumber, openCall}
 use Rattle.siv.specs.Ring.{isRing, slotCount, slotKey, ringRows, triedWork, RingResult, openSlot, opensAt, workAt, openSlotWith, openRing}
 use Rattle.siv.specs.Work.{blockWork}

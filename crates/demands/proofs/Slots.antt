@@ -8,7 +8,7 @@ use native.Mathlib.Decide.{ℕ-discrete}
 use native.Mathlib.Omega.{arith}
 use lib.Dec.{eqb}
 use lib.ListN.{length}
-use Rattle.siv.specs.Answer.{row, first}
+use Rattle.answers.specs.Answer.{row, first}
 use Rattle.siv.specs.Calls.{isKeyLength}
 use Rattle.siv.specs.Ring.{isRing, ringRows, openRing}
 use Rattle.siv.proofs.Ring.{Chosen, found, none, Comes, cameTo, comes}

@@ -14,12 +14,13 @@ use Rattle.octets.proofs.Strings.{length-put, put-put}
 use Rattle.aes.specs.Aes.{aes}
 use Rattle.cmac.specs.Cmac.{zeros}
 use Rattle.header.specs.Header.{strings}
+use Rattle.header.specs.Blocks.{sixteenths, blocksOf}
 use Rattle.ctr.specs.Counter.{xorStream, begunBlock, pieceWork}
-use Rattle.siv.specs.Answer.{first, success, numberAlone, forged}
+use Rattle.answers.specs.Answer.{first, success, numberAlone, forged}
+use Rattle.answers.proofs.Laws.{none-where}
 use Rattle.siv.specs.Calls.{limit, scratchNeed}
 use Rattle.siv.specs.Siv.{ctrKey, tagOf, streamed, opened, genuine}
-use Rattle.siv.specs.Work.{sixteenths, blocksOf}
-use Rattle.siv.proofs.Laws.{none-where, by-tag, length-streamed, put-over}
+use Rattle.siv.proofs.Laws.{by-tag, length-streamed, put-over}
 use Rattle.stream.specs.declared.Stream.{Stream}
 use Rattle.stream.specs.State.{ended, allZero, keptFits, fits, added, addedWork, tagOfState, tagOfStateWork, streamedAt, streamedWith}
 use Rattle.stream.specs.Steps.{StepResult, doneStep, refusedStep, settle, feedRows, turned, wrote, deciphered, addStep, turnStep, writeStep, closeStep, feedStep, forgedStep, finishStep}

@@ -10,7 +10,7 @@ use lib.ListN.{drop}
 use borrow.Author.Tests.{eq-eqb, ne-eqb}
 use Rattle.aes.specs.Aes.{isWidth}
 use Rattle.s2v.specs.S2v.{tailLength}
-use Rattle.siv.specs.Answer.{Outcome, Row}
+use Rattle.answers.specs.Answer.{Outcome, Row}
 use Rattle.siv.specs.Calls.{limit}
 use Rattle.siv.proofs.Laws.{length-streamed}
 use Rattle.head.specs.declared.Head.{Head}

@@ -14,12 +14,14 @@ use Rattle.octets.proofs.Strings.{take-put}
 use Rattle.aes.specs.Aes.{aes}
 use Rattle.cmac.specs.Cmac.{zeros}
 use Rattle.header.specs.Header.{strings}
+use Rattle.header.specs.Blocks.{blocksOfAll}
 use Rattle.ctr.specs.Counter.{xorStream}
-use Rattle.siv.specs.Answer.{Outcome, success, numberAlone}
+use Rattle.answers.specs.Answer.{Outcome, success, numberAlone}
+use Rattle.answers.proofs.Laws.{first-pass}
 use Rattle.siv.specs.Calls.{limit, scratchNeed, headerRows, openCall}
 use Rattle.siv.specs.Siv.{ctrKey, tagOf, streamed, sealed, opened, genuine}
-use Rattle.siv.specs.Work.{blocksOfAll, blockWork}
-use Rattle.siv.proofs.Laws.{first-pass, openJudged, length-streamed, length-opened}
+use Rattle.siv.specs.Work.{blockWork}
+use Rattle.siv.proofs.Laws.{openJudged, length-streamed, length-opened}
 use Rattle.head.specs.Head.{headOf}
 use Rattle.head.proofs.Laws.{head-lengths}
 use Rattle.stream.specs.declared.Stream.{Stream}

@@ -10,7 +10,7 @@ use borrow.Author.Tests.{le-ltb, eq-eqb}
 use Rattle.octets.specs.Octets.{put}
 use Rattle.octets.proofs.Strings.{take-put}
 use Rattle.header.specs.Header.{total, strings}
-use Rattle.siv.specs.Answer.{Outcome, success, forged}
+use Rattle.answers.specs.Answer.{Outcome, success, forged}
 use Rattle.siv.specs.Calls.{limit, scratchNeed, sealNumber, sealCall, openNumber, openCall}
 use Rattle.siv.specs.Siv.{sealed, opened, genuine, genuineWork}
 use Rattle.siv.specs.Work.{blockWork}

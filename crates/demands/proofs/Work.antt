@@ -15,16 +15,18 @@ use Rattle.octets.specs.Octets.{put, same, xors}
 use Rattle.aes.specs.Aes.{isWidth, aes}
 use Rattle.aes.specs.Cipher.{cipher}
 use Rattle.aes.proofs.Widths.{length-cipher}
+use Rattle.header.specs.Blocks.{sixteenths, blocksOf, blocksOfAll}
+use Rattle.header.proofs.Laws.{blocks-append}
 use Rattle.s2v.specs.S2v.{tailLength}
 use Rattle.ctr.specs.Counter.{xorStream, noBlock, begunBlock, leftOver, pieceWork, xorPiece, keptAfter}
 use Rattle.ctr.proofs.Laws.{xorPiece-within, xorPiece-beyond, keptAfter-within, keptAfter-beyond}
-use Rattle.siv.specs.Answer.{Outcome, Row, row, first, success, numberAlone}
+use Rattle.answers.specs.Answer.{Outcome, Row, row, first, success, numberAlone}
+use Rattle.answers.proofs.Laws.{lacks, first-not, first-none, not-due}
 use Rattle.siv.specs.Calls.{CallResult, refusedCall, isKeyLength, limit, sealTable, sealNumber, sealCall, openNumber, openCall}
 use Rattle.siv.specs.Ring.{ringRows, slotCount, slotKey, RingResult}
 use Rattle.siv.specs.Siv.{ctrKey}
-use Rattle.siv.specs.Work.{sixteenths, blocksOf, blocksOfAll, blockWork, plannedWork}
-use Rattle.siv.proofs.Laws.{lacks, first-not, first-none, not-due, seal-admits, openJudged, open-admits, open-passed, open-forged, length-streamed}
-use Rattle.siv.proofs.Lengths.{blocks-append}
+use Rattle.siv.specs.Work.{blockWork, plannedWork}
+use Rattle.siv.proofs.Laws.{seal-admits, openJudged, open-admits, open-passed, open-forged, length-streamed}
 use Rattle.siv.proofs.Ring.{Comes, goes, stops, ring-comes}
 use Rattle.stream.specs.declared.Stream.{Stream}
 use Rattle.stream.specs.State.{ended, allZero, writtenLimit, streamPlace, keptFits, fits, added, addedWork, tagOfState, tagOfStateWork, streamedAt, keptAt, streamedWith}

@@ -10,12 +10,13 @@ use Rattle.octets.specs.Octets.{put}
 use Rattle.aes.specs.Aes.{isWidth}
 use Rattle.cmac.specs.Cmac.{zeros}
 use Rattle.header.specs.Header.{total, strings}
-use Rattle.siv.specs.declared.Answer.{Answer}
-use Rattle.siv.specs.Answer.{Outcome, success, numberAlone, forged, Row, row, outcomeOf}
+use Rattle.header.specs.Blocks.{sixteenths, blocksOfAll}
+use Rattle.answers.specs.declared.Answer.{Answer}
+use Rattle.answers.specs.Answer.{Outcome, success, numberAlone, forged, Row, row, outcomeOf}
 use Rattle.siv.specs.Calls.{CallResult, scratchNeed, headerRows, openRows, sealTable, sealCall, openTable, openCall}
 use Rattle.siv.specs.Ring.{slotCount, slotKey, ringRows, RingResult, openRing}
 use Rattle.siv.specs.Siv.{sealed, opened, genuine}
-use Rattle.siv.specs.Work.{sixteenths, blocksOfAll, blockWork}
+use Rattle.siv.specs.Work.{blockWork}
 use Rattle.head.specs.declared.Head.{Head}
 use Rattle.head.specs.Head.{zeroHead, headOf, extended, MakeResult, madeHead, makeHead, extendHead}
 use Rattle.stream.specs.declared.Stream.{Stream}

@@ -4,8 +4,8 @@ use mathlib.Core.Path.{_≡_}
 use mathlib.Core.List.{List, _++_}
 use Prim.Native.Nat.{ℕ, _+_}
 use lib.ListN.{take, drop}
-use Rattle.siv.specs.Answer.{success}
-use Rattle.siv.specs.Work.{blocksOfAll}
+use Rattle.header.specs.Blocks.{blocksOfAll}
+use Rattle.answers.specs.Answer.{success}
 use Rattle.head.specs.Head.{madeHead, makeHead, extendHead}
 use Rattle.stream.specs.Steps.{StepResult}
 use Rattle.demands.specs.Run.{Begin, undivided, divided, begunFrom, firstHead, restBytes, begun}

@@ -7,7 +7,7 @@ use Prim.Native.Nat.{ℕ, _+_, _-_, _*_, _≤_, _<_}
 use lib.ListN.{length, replicate}
 use Rattle.octets.specs.Octets.{put}
 use Rattle.header.specs.Header.{total}
-use Rattle.siv.specs.Answer.{forged}
+use Rattle.answers.specs.Answer.{forged}
 use Rattle.siv.specs.Calls.{isKeyLength, limit, scratchNeed, openCall}
 use Rattle.siv.specs.Ring.{slotKey, triedWork, RingResult, openSlot, opensAt, workAt, openSlotWith, openRing}
 use Rattle.siv.specs.Work.{blockWork}

@@ -4,7 +4,7 @@ use mathlib.Core.List.{List, [], _∷_}
 use Prim.Native.Nat.{ℕ}
 use lib.ListN.{take, drop}
 use Rattle.header.specs.Header.{total}
-use Rattle.siv.specs.Answer.{Outcome}
+use Rattle.answers.specs.Answer.{Outcome}
 use Rattle.head.specs.declared.Head.{Head}
 use Rattle.head.specs.Head.{MakeResult, makeHead}
 use Rattle.stream.specs.declared.Stream.{Stream}

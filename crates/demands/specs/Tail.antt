@@ -10,7 +10,7 @@ use Rattle.octets.specs.Octets.{put, same}
 use Rattle.aes.specs.Aes.{isWidth}
 use Rattle.s2v.specs.S2v.{tailLength}
 use Rattle.ctr.specs.Counter.{pieceWork}
-use Rattle.siv.specs.Answer.{row, first}
+use Rattle.answers.specs.Answer.{row, first}
 use Rattle.siv.specs.Calls.{limit}
 use Rattle.head.specs.declared.Head.{Head}
 use Rattle.stream.specs.declared.Stream.{Stream}

@@ -8,10 +8,10 @@ use lib.Dec.{eqb}
 use lib.ListN.{length, take, drop, replicate}
 use Rattle.octets.specs.Octets.{put}
 use Rattle.header.specs.Header.{strings}
-use Rattle.siv.specs.Answer.{success}
+use Rattle.header.specs.Blocks.{blocksOfAll}
+use Rattle.answers.specs.Answer.{success}
 use Rattle.siv.specs.Calls.{scratchNeed, openCall}
 use Rattle.siv.specs.Siv.{streamed, sealed}
-use Rattle.siv.specs.Work.{blocksOfAll}
 use Rattle.stream.specs.State.{ended}
 use Rattle.stream.specs.Steps.{StepResult, finishStep}
 use Rattle.demands.specs.Model.{ModelState, fresh, ModelRun, sealTag, shown, modelRun}

@@ -7,7 +7,7 @@ use Prim.Native.Nat.{ℕ, _+_, _-_, _≤_}
 use lib.ListN.{length, replicate}
 use Rattle.octets.specs.Octets.{put}
 use Rattle.header.specs.Header.{total, strings}
-use Rattle.siv.specs.Answer.{success, forged}
+use Rattle.answers.specs.Answer.{success, forged}
 use Rattle.siv.specs.Calls.{CallResult, isKeyLength, limit, scratchNeed, sealCall, openCall}
 use Rattle.siv.specs.Siv.{sealed}
 use Rattle.siv.specs.Work.{blockWork}

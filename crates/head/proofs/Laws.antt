@@ -10,20 +10,20 @@ use lib.Dec.{eqb, ltb}
 use lib.ListN.{length, length-append}
 use borrow.Author.Tests.{eqb-true, eq-eqb, ne-eqb, ltb-false, not-true, not-false}
 use Rattle.aes.specs.Aes.{isWidth}
-use Rattle.aes.proofs.Widths.{width}
 use Rattle.aes.specs.Cipher.{cipher}
 use Rattle.aes.specs.KeyExpansion.{roundKeys}
+use Rattle.aes.proofs.Widths.{width}
 use Rattle.cmac.specs.declared.Subkeys.{Subkeys}
 use Rattle.cmac.specs.Cmac.{zeros, subkeys, zeroCipher, cmac}
 use Rattle.header.specs.Header.{total, strings}
+use Rattle.header.specs.Blocks.{blocksOfAll}
 use Rattle.header.proofs.Laws.{length-strings}
 use Rattle.s2v.specs.S2v.{absorbStrings, absorbWork, headerResult}
 use Rattle.s2v.proofs.Laws.{absorb-append}
-use Rattle.siv.specs.declared.Answer.{Answer}
-use Rattle.siv.specs.Answer.{Outcome, first, outcomeOf, numberAlone}
+use Rattle.answers.specs.declared.Answer.{Answer}
+use Rattle.answers.specs.Answer.{Outcome, first, outcomeOf, numberAlone}
+use Rattle.answers.proofs.Laws.{not-due}
 use Rattle.siv.specs.Siv.{macKey, ctrKey}
-use Rattle.siv.specs.Work.{blocksOfAll}
-use Rattle.siv.proofs.Laws.{not-due}
 use Rattle.siv.proofs.Lengths.{absorb-lengths, header-lengths}
 use Rattle.head.specs.declared.Head.{Head}
 use Rattle.head.specs.declared.Made.{Made}

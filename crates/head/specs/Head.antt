@@ -12,7 +12,7 @@ use Rattle.aes.specs.KeyExpansion.{roundKeys}
 use Rattle.cmac.specs.Cmac.{zeros, subkeys, zeroCipher, zeroCipherWork}
 use Rattle.header.specs.Header.{total, strings}
 use Rattle.s2v.specs.S2v.{absorbStrings, absorbWork, headerResult, headerWork}
-use Rattle.siv.specs.Answer.{Outcome, success, numberAlone, outcomeOf, Row, row, first}
+use Rattle.answers.specs.Answer.{Outcome, success, numberAlone, outcomeOf, Row, row, first}
 use Rattle.siv.specs.Calls.{headerRows}
 use Rattle.siv.specs.Siv.{macKey, ctrKey}
 use Rattle.head.specs.declared.Head.{Head}

@@ -7,7 +7,7 @@ ghost use Rattle.head.specs.Head.{headOf, headOfWork, extended, extended
 use crate::Head;
 use crate::Made;
 use aes::Counted;
-use siv::Answer;
+use answers::Answer;
 
 // Makes the head of a key and header strings.
 pub(crate) fn head_of(key: &[u8], header: &[u8], lens: &[u32]) -> Made

@@ -1,10 +1,10 @@
 // Which refusal is due, from a head and from lengths.
 ghost use mathlib.Core.Path.{_≡_};
-ghost use Rattle.siv.specs.Answer.{outcomeOf, first, numberAlone};
+ghost use Rattle.answers.specs.Answer.{outcomeOf, first, numberAlone};
 ghost use Rattle.head.specs.Head.{fitsHead, restRows};
 use crate::Head;
-use siv::Answer;
-use siv::Refusal;
+use answers::Answer;
+use answers::Refusal;
 
 // Whether a head is one that a state can begin from.
 fn fits(head: Head) -> bool

@@ -3,11 +3,11 @@ mod admitted;
 pub mod judge;
 
 ghost use mathlib.Core.Path.{_≡_};
-ghost use Rattle.siv.specs.Answer.{outcomeOf};
+ghost use Rattle.answers.specs.Answer.{outcomeOf};
 ghost use Rattle.head.specs.Head.{zeroHead, DidMake, makeHead, extendHead};
 use aes::RoundKeys;
+use answers::Answer;
 use octets::Block;
-use siv::Answer;
 
 // A head. Whatever its fields hold, a call that takes one judges width and count, and uses the others as they are.
 pub struct Head {

@@ -1,9 +1,10 @@
--- Laws of `total` and `strings`: joined lists of lengths, one string more, and a loop that counts the lengths.
+-- Laws of `total`, `strings` and `blocksOfAll`: joined lists of lengths, one string more, and a loop that counts the lengths.
 -- Assumes nothing.
 use mathlib.Core.Path.{_≡_, refl, sym, ap, ap₂, _∙_}
 use mathlib.Core.Bool.{false}
 use mathlib.Core.List.{List, [], _∷_, _++_}
-use Prim.Native.Nat.{ℕ, suc, _+_, _-_, _≤_, _<_, zero-le}
+use Prim.Native.Nat.{ℕ, suc, _+_, _-_, _*_, _≤_, _<_, zero-le}
+use native.Mathlib.Nat.{add-zero}
 use native.Mathlib.Numerals.{add-one}
 use native.Mathlib.Omega.{arith}
 use lib.Dec.{eqb}
@@ -13,6 +14,7 @@ use borrow.Author.Tests.{eqb-true, eq-eqb, ne-eqb}
 use Rattle.octets.proofs.Strings.{drop-take}
 use Rattle.octets.proofs.Tests.{bool-ext}
 use Rattle.header.specs.Header.{total, strings}
+use Rattle.header.specs.Blocks.{blocksOf, blocksOfAll}
 
 -- the sum of joined lists
 pub total-append : (a b : List ℕ) → total (a ++ b) ≡ total a + total b
@@ -90,3 +92,28 @@ module _ (lens : List ℕ) (n : ℕ) where
         bool-ext (eqb rest 0) (eqb (total lens) n)
         (λ e. eq-eqb (total lens) n (omega (arith, eqb-true rest 0 e)))
         (λ e. eq-eqb rest 0 (omega (arith, eqb-true (total lens) n e)))
+
+-- ---- blocks
+
+-- a header string has a block at the most for every 16 bytes, and one
+pub blocks-most : (lens : List ℕ) → 16 * blocksOfAll lens ≤ 16 * length lens + total lens
+unfolding blocksOfAll total
+blocks-most [] = omega arith
+blocks-most (n ∷ lens) = omega (arith, blocks-most lens)
+
+pub blocks-append : (a b : List ℕ) → blocksOfAll (a ++ b) ≡ blocksOfAll a + blocksOfAll b
+unfolding blocksOfAll
+blocks-append [] b = omega arith
+blocks-append (n ∷ a) b = omega (arith, blocks-append a b)
+
+-- one string more, and all of them
+pub blocks-next : (lens : List ℕ) (i : ℕ) → i < length lens → blocksOfAll (take (i + 1) lens) ≡ blocksOfAll (take i lens) + blocksOf (getD lens i 0)
+unfolding blocksOfAll
+blocks-next lens i h =
+    ap (λ (n : ℕ). blocksOfAll (take n lens)) (add-one i)
+    ∙ ap blocksOfAll (take-suc lens i 0 h)
+    ∙ blocks-append (take i lens) (getD lens i 0 ∷ [])
+    ∙ ap (λ (n : ℕ). blocksOfAll (take i lens) + n) (add-zero (blocksOf (getD lens i 0)))
+
+pub blocks-all : (lens : List ℕ) (i : ℕ) → length lens ≤ i → blocksOfAll (take i lens) ≡ blocksOfAll lens
+blocks-all lens i h = ap blocksOfAll (take-all i lens h)

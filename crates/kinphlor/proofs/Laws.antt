@@ -3,33 +3,16 @@
 use mathlib.Core.Path.{_≡_, refl, ap, ap₂, sym, _∙_}
 use mathlib.Core.Bool.{true, false}
 use mathlib.Core.List.{List}
-use Prim.Native.Nat.{ℕ, _≤_}
+use Prim.Native.Nat.{ℕ}
 use native.Mathlib.Nat.{add-zero}
-use native.Mathlib.Omega.{arith}
 use lib.ListN.{length}
-use Rattle.siv.specs.declared.Refusal.{Refusal}
-use Rattle.siv.specs.declared.Refusal.the-variants.{KeyLength, HeaderCount, HeaderLengths, TooLong, SealedLength, OutputShort, ScratchShort, Forged, State, EmptyNonce, RingLength}
+use Rattle.answers.specs.Answer.{Outcome, outcomeOf, numberAlone}
+use Rattle.answers.proofs.Laws.{outcome-with}
 use Rattle.siv.specs.declared.Report.{Report}
 use Rattle.siv.specs.declared.RingAnswer.{RingAnswer}
-use Rattle.siv.specs.Answer.{Outcome, numberOf, outcomeOf, numberAlone}
 use Rattle.siv.specs.Calls.{CallResult, DidCall}
 use Rattle.siv.specs.Ring.{DidRing, openRing}
-use Rattle.siv.proofs.Laws.{outcome-with}
 use Rattle.kinphlor.specs.Interface.{aeadLens, packed, emptyNonce, fromC, DidPacked, packedRing, emptyNonceRing, openRingFromC, DidPackedRing}
-
--- a refusal's number is small, so that an answer fits in one number
-pub number-most : (r : Refusal) → numberOf r ≤ 11
-number-most KeyLength = omega arith
-number-most HeaderCount = omega arith
-number-most HeaderLengths = omega arith
-number-most TooLong = omega arith
-number-most SealedLength = omega arith
-number-most OutputShort = omega arith
-number-most ScratchShort = omega arith
-number-most Forged = omega arith
-number-most State = omega arith
-number-most EmptyNonce = omega arith
-number-most RingLength = omega arith
 
 module _ (nonce : ℕ) (key output scratch : List ℕ) (call : CallResult) where
   pub nonce-refused : {r : ℕ} → emptyNonce (length key) nonce ≡ true → r ≡ packed (numberAlone 10) → DidPacked (fromC nonce key output scratch call) r output scratch

@@ -7,7 +7,7 @@ use Prim.Native.Nat.{ℕ, _+_, _*_}
 use lib.Dec.{eqb}
 use lib.ListN.{length}
 use denote.Ref.{now}
-use Rattle.siv.specs.Answer.{Outcome, first}
+use Rattle.answers.specs.Answer.{Outcome, first}
 use Rattle.siv.specs.Calls.{isKeyLength, CallResult, refusedCall, sealCall, openCall, Lent}
 use Rattle.siv.specs.Ring.{ringRows, RingResult, refusedRing, openRing}
 use Rattle.siv.specs.Work.{plannedWork}

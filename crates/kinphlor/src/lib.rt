@@ -1,32 +1,13 @@
 // The C interface: whole sealing and opening over byte slices, and opening under a ring of keys, with associated data and nonce as the header list; and their work, planned from lengths.
 ghost use mathlib.Core.Path.{_≡_};
 ghost use Prim.Native.Nat.{_≤_};
-ghost use Rattle.siv.specs.Answer.{numberOf, outcomeOf};
+ghost use Rattle.answers.specs.Answer.{outcomeOf};
 ghost use Rattle.siv.specs.Calls.{limit};
 ghost use Rattle.kinphlor.specs.Interface.{packed, emptyNonce, sealFromC, openFromC, PerformsFromC};
 ghost use Rattle.kinphlor.specs.Interface.{packedRing, emptyNonceRing, PerformsRingFromC, plannedFromC};
-use siv::Answer;
-use siv::Refusal;
+use answers::Answer;
+use answers::Refusal;
 use siv::RingAnswer;
-
-// A refusal's number.
-fn number(r: Refusal) -> u64
-    ensures { λ n. ⌜ n ≡ numberOf r ⌝ }
-{
-    match r {
-        Refusal::KeyLength => 1,
-        Refusal::HeaderCount => 2,
-        Refusal::HeaderLengths => 3,
-        Refusal::TooLong => 4,
-        Refusal::SealedLength => 5,
-        Refusal::OutputShort => 6,
-        Refusal::ScratchShort => 7,
-        Refusal::Forged => 8,
-        Refusal::State => 9,
-        Refusal::EmptyNonce => 10,
-        Refusal::RingLength => 11,
-    }
-}
 
 // An answer as one number: its number times 2 to the power 32, plus its length.
 pub fn pack(a: Answer) -> u64
@@ -34,7 +15,7 @@ pub fn pack(a: Answer) -> u64
 {
     match a {
         Answer::Ok(n) => n as u64,
-        Answer::Refused(r) => number(r) * 4294967296,
+        Answer::Refused(r) => answers::number(r) * 4294967296,
     }
 }
 

@@ -5,10 +5,10 @@ mod pieces;
 mod records;
 mod state;
 
+use answers::Answer;
+use answers::Refusal;
 use head::Head;
 use head::Made;
-use siv::Answer;
-use siv::Refusal;
 use siv::Report;
 use stream::Step;
 use stream::Stream;

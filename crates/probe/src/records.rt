@@ -1,10 +1,10 @@
 // Records of one length, each sealed or opened from one head.
 ghost use Prim.Native.Nat.{_≤_};
 use crate::pieces;
+use answers::Answer;
+use answers::Refusal;
 use head::Head;
 use head::Made;
-use siv::Answer;
-use siv::Refusal;
 use stream::Stream;
 
 // The first of two answers if it is a refusal, else the second.

@@ -1,18 +1,16 @@
--- Laws of keys, of the order of refusals and of the whole calls' definitions.
+-- Laws of keys and of the whole calls' definitions.
 -- Assumes nothing.
 use mathlib.Core.Path.{_≡_, refl, ap, ap₂, sym, subst, _∙_}
-use mathlib.Core.Bool.{Bool, true, false, not, false≢true, cond, _&&_, _||_, and-eq-true-iff}
+use mathlib.Core.Bool.{Bool, true, false, not, cond, _||_}
 use mathlib.Core.List.{List, [], _∷_, _++_}
-use Prim.Native.Nat.{ℕ, suc, _+_, _-_, _/_, _≤_, _<_}
+use Prim.Native.Nat.{ℕ, _+_, _-_, _/_, _≤_, _<_}
 use native.Mathlib.Decide.{decLt, ℕ-discrete}
 use native.Mathlib.Nat.{zero-add}
 use native.Mathlib.Omega.{arith}
 use lib.Dec.{eqb, ltb}
 use lib.ListN.{length, take, drop, replicate, length-drop, length-replicate}
 use lib.Seq.{drop-at, drop-drop}
-use borrow.Author.Tests.{eqb-true, eq-eqb, ne-eqb, lt-ltb, le-ltb, ltb-false, not-false}
-use types.Run.{OneOf}
-use denote.Enum.Declared as declared
+use borrow.Author.Tests.{eqb-true, ne-eqb, lt-ltb, le-ltb, ltb-false, not-false}
 use Rattle.octets.specs.Octets.{put, same}
 use Rattle.octets.proofs.Strings.{take-put}
 use Rattle.aes.specs.Aes.{isWidth, aes}
@@ -20,15 +18,13 @@ use Rattle.aes.specs.Cipher.{cipher}
 use Rattle.aes.specs.KeyExpansion.{roundKeys}
 use Rattle.header.specs.Header.{total, strings}
 use Rattle.ctr.proofs.Laws.{length-xorStream}
-use Rattle.siv.specs.declared.Answer.{Answer}
-use Rattle.siv.specs.declared.Answer.the-variants.{Ok, Refused}
+use Rattle.answers.specs.declared.Answer.{Answer}
+use Rattle.answers.specs.declared.Answer.the-variants.{Ok}
+use Rattle.answers.specs.Answer.{Outcome, Row, row, first, outcomeOf, success, numberAlone, forged}
+use Rattle.answers.proofs.Laws.{first-not, first-pass, first-stop, first-none, none-where, passed, not-due}
 use Rattle.siv.specs.declared.Report.{Report}
-use Rattle.siv.specs.declared.Refusal.{Refusal}
-use Rattle.siv.specs.declared.Refusal.the-variants.{KeyLength, HeaderCount, HeaderLengths, TooLong, SealedLength, OutputShort, ScratchShort, Forged, State, EmptyNonce, RingLength}
-use Rattle.siv.specs.Answer.{Outcome, Row, row, first, numberOf, outcomeOf, success, numberAlone, forged}
 use Rattle.siv.specs.Calls.{isKeyLength, limit, scratchNeed, headerRows, sealRows, openRows, Usable, DidCall, sealNumber, sealCall, openNumber, openCall}
 use Rattle.siv.specs.Siv.{tagOf, tagOfWork, streamed, streamedWork, sealed, sealedWork, opened, genuine, genuineWork}
-use Rattle.siv.proofs.Answer.{the-type}
 
 -- ---- keys
 
@@ -50,61 +46,7 @@ halves n e = go (eqb n 32) (eqb n 48) (eqb-true n 32) (eqb-true n 48) (eqb-true 
     go false true f g h t = at 48 (record { half = refl; even = refl; most = omega arith }) (g refl)
     go false false f g h t = at 64 (record { half = refl; even = refl; most = omega arith }) (h t)
 
--- ---- the order of refusals
-
--- no row has the number n
-abbrev pub lacks : ℕ → List Row → Bool
-lacks n [] = true
-lacks n (r ∷ rs) = not (eqb (r .number) n) && lacks n rs
-
--- a number that no row has is not the first due
-pub first-not : (n : ℕ) (rs : List Row) → lacks n rs ≡ true → (0 ≡ n → ⊥) → first rs ≡ n → ⊥
-first-not n [] l z e = z e
-first-not n (r ∷ rs) l z e = go (r .due) (first-not n rs (and-eq-true-iff (not (eqb (r .number) n)) (lacks n rs) .0 l .1) z) e
-  where
-    go : (d : Bool) → (first rs ≡ n → ⊥) → cond d (r .number) (first rs) ≡ n → ⊥
-    go true ih p = false≢true (sym (ap not (eq-eqb (r .number) n p)) ∙ and-eq-true-iff (not (eqb (r .number) n)) (lacks n rs) .0 l .0)
-    go false ih p = ih p
-
--- where no row of the first list is due, the second decides
-pub first-pass : (a b : List Row) → lacks 0 a ≡ true → first a ≡ 0 → first (a ++ b) ≡ first b
-first-pass [] b l e = refl
-first-pass (r ∷ a) b l e = go (r .due) (first-pass a b (and-eq-true-iff (not (eqb (r .number) 0)) (lacks 0 a) .0 l .1)) e
-  where
-    go : (d : Bool) → (first a ≡ 0 → first (a ++ b) ≡ first b) → cond d (r .number) (first a) ≡ 0 → cond d (r .number) (first (a ++ b)) ≡ first b
-    go true ih p = absurd (false≢true (sym (ap not (eq-eqb (r .number) 0 p)) ∙ and-eq-true-iff (not (eqb (r .number) 0)) (lacks 0 a) .0 l .0))
-    go false ih p = ih p
-
--- where a row of the first list is due, it decides
-pub first-stop : (a b : List Row) → (first a ≡ 0 → ⊥) → first (a ++ b) ≡ first a
-first-stop [] b e = absurd (e refl)
-first-stop (r ∷ a) b e = go (r .due) (first-stop a b) e
-  where
-    go : (d : Bool) → ((first a ≡ 0 → ⊥) → first (a ++ b) ≡ first a) → (cond d (r .number) (first a) ≡ 0 → ⊥)
-        → cond d (r .number) (first (a ++ b)) ≡ cond d (r .number) (first a)
-    go true ih p = refl
-    go false ih p = ih p
-
--- where no row of both lists is due, none of either is
-pub first-none : (a b : List Row) → lacks 0 a ≡ true → first (a ++ b) ≡ 0 → (first a ≡ 0) × (first b ≡ 0)
-first-none a b l e = go (ℕ-discrete (first a) 0)
-  where
-    go : Dec (first a ≡ 0) → (first a ≡ 0) × (first b ≡ 0)
-    go (yes z) = (z, sym (first-pass a b l z) ∙ e)
-    go (no z) = absurd (z (sym (first-stop a b z) ∙ e))
-
--- so a first list decides where a row of it is due, and else the second
-pub first-append : (a b : List Row) → lacks 0 a ≡ true → first (a ++ b) ≡ cond (eqb (first a) 0) (first b) (first a)
-first-append a b l = go (ℕ-discrete (first a) 0)
-  where
-    go : Dec (first a ≡ 0) → first (a ++ b) ≡ cond (eqb (first a) 0) (first b) (first a)
-    go (yes z) = first-pass a b l z ∙ sym (ap (λ (t : Bool). cond t (first b) (first a)) (eq-eqb (first a) 0 z))
-    go (no z) = first-stop a b z ∙ sym (ap (λ (t : Bool). cond t (first b) (first a)) (ne-eqb (first a) 0 z))
-
--- where the last row is 8 for a test that fails, none is due where the test is passed
-pub none-where : (b : Bool) → eqb (cond (not b) 8 0) 0 ≡ b
-none-where true = refl
-none-where false = refl
+-- ---- sums
 
 -- a sum past a limit, told without the sum
 pub sum-passes : (most total n : ℕ) → total ≤ most → ltb (most - total) n ≡ ltb most (total + n)
@@ -114,65 +56,6 @@ sum-passes most total n h = go (decLt (most - total) n)
     go (yes k) = lt-ltb (most - total) n k ∙ sym (lt-ltb most (total + n) (omega arith))
     go (no k) = le-ltb (most - total) n (omega arith) ∙ sym (le-ltb most (total + n) (omega arith))
 
--- ---- which case an answer is
-
--- no refusal has the number 0
-pub refusal-number : (r : Refusal) → numberOf r ≡ 0 → ⊥
-refusal-number KeyLength e = omega arith
-refusal-number HeaderCount e = omega arith
-refusal-number HeaderLengths e = omega arith
-refusal-number TooLong e = omega arith
-refusal-number SealedLength e = omega arith
-refusal-number OutputShort e = omega arith
-refusal-number ScratchShort e = omega arith
-refusal-number Forged e = omega arith
-refusal-number State e = omega arith
-refusal-number EmptyNonce e = omega arith
-refusal-number RingLength e = omega arith
-
--- what a match tells of an answer: 0 and 1 are the places of its cases
-pub told-refused : (a : Answer) → OneOf (1 ∷ []) (declared.tagOf the-type a) → outcomeOf a 0 .number ≡ 0 → ⊥
-told-refused (Ok n) k e = let z : _≡_ {A = ℕ} 0 1 = k in omega arith
-told-refused (Refused r) k e = refusal-number r e
-
-pub told-ok : (a : Answer) → OneOf (0 ∷ []) (declared.tagOf the-type a) → outcomeOf a 0 .number ≡ 0
-told-ok (Ok n) k = refl
-told-ok (Refused r) k = let z : _≡_ {A = ℕ} 1 0 = k in absurd (omega arith)
-
--- a refusal has length 0
-pub told-length : (a : Answer) → OneOf (1 ∷ []) (declared.tagOf the-type a) → outcomeOf a 0 ≡ numberAlone (outcomeOf a 0 .number)
-told-length (Ok n) k = let z : _≡_ {A = ℕ} 0 1 = k in absurd (omega arith)
-told-length (Refused r) k = refl
-
--- past a judgement none was due
-pub passed : (a : Answer) (n : ℕ) → OneOf (0 ∷ []) (declared.tagOf the-type a) → outcomeOf a 0 ≡ numberAlone n → n ≡ 0
-passed a n k e = sym (ap (λ (o : Outcome). o .number) e) ∙ told-ok a k
-
--- a refusal stays due whatever rows come behind
-pub still-due : (a : Answer) (rows rest : List Row) → OneOf (1 ∷ []) (declared.tagOf the-type a) → outcomeOf a 0 ≡ numberAlone (first rows) → outcomeOf a 0 ≡ numberAlone (first (rows ++ rest))
-still-due a rows rest k e = e ∙ ap numberAlone (sym (first-stop rows rest (λ z. told-refused a k (ap (λ (o : Outcome). o .number) e ∙ z))))
-
--- past a judgement the rows behind decide
-pub next-due : (a : Answer) (rows rest : List Row) → lacks 0 rows ≡ true → OneOf (0 ∷ []) (declared.tagOf the-type a) → outcomeOf a 0 ≡ numberAlone (first rows)
-    → numberAlone (first rest) ≡ numberAlone (first (rows ++ rest))
-next-due a rows rest l k e = ap numberAlone (sym (first-pass rows rest l (passed a (first rows) k e)))
-
--- with another work number and length are the same
-pub outcome-with : (a : Answer) (w w′ : ℕ) {o : Outcome} {v : ℕ} → outcomeOf a w ≡ o → w′ ≡ v → outcomeOf a w′ ≡ record { number = o .number; count = o .count; work = v }
-outcome-with a w w′ e v = go a ∙ ap₂ (λ (o : Outcome) (k : ℕ). record { number = o .number; count = o .count; work = k }) e v
-  where
-    go : (a : Answer) → outcomeOf a w′ ≡ record { number = outcomeOf a w .number; count = outcomeOf a w .count; work = w′ }
-    go (Ok n) = refl
-    go (Refused r) = refl
-
-pub outcome-number : (a : Answer) (w w′ : ℕ) → outcomeOf a w .number ≡ outcomeOf a w′ .number
-outcome-number (Ok n) w w′ = refl
-outcome-number (Refused r) w w′ = refl
-
-pub outcome-work : (a : Answer) (w : ℕ) → outcomeOf a w .work ≡ w
-outcome-work (Ok n) w = refl
-outcome-work (Refused r) w = refl
-
 -- ---- keys under the cipher
 
 -- AES under a key is the cipher at its width under its round keys
@@ -181,10 +64,6 @@ unfolding aes
 aes-cipher key w k = ap₂ cipher w k
 
 -- ---- the whole calls
-
-pub not-due : (b : Bool) (n rest : ℕ) → cond b (suc n) rest ≡ 0 → (b ≡ false) × (rest ≡ 0)
-not-due true n rest e = absurd (omega arith)
-not-due false n rest e = (refl, e)
 
 -- what the refusals of key and header list leave
 pub header-admits : (keyLength : ℕ) (lens : List ℕ) (headerLength : ℕ) → first (headerRows keyLength lens headerLength) ≡ 0

@@ -1,48 +1,24 @@
 -- The work that the definitions' steps count is the sum over lengths.
 -- Assumes nothing.
 use mathlib.Core.Path.{_≡_, ap, _∙_}
-use mathlib.Core.List.{List, [], _∷_, _++_}
-use Prim.Native.Nat.{ℕ, _+_, _-_, _*_, _≤_, _<_}
-use native.Mathlib.Nat.{add-zero}
-use native.Mathlib.Numerals.{add-one}
+use mathlib.Core.List.{List, [], _∷_}
+use Prim.Native.Nat.{ℕ, _+_, _-_, _≤_}
 use native.Mathlib.Omega.{arith}
-use lib.ListN.{length, getD, take, drop, length-drop}
-use lib.Seq.{length-take-le, take-all, take-suc}
+use lib.ListN.{length, take, drop, length-drop}
+use lib.Seq.{length-take-le}
 use Rattle.aes.specs.Aes.{aes}
 use Rattle.aes.proofs.Widths.{length-cipher}
 use Rattle.cmac.specs.Cmac.{zeros, subkeys, zeroCipher, cmacWork}
 use Rattle.cmac.proofs.Laws.{cmac-work}
 use Rattle.header.specs.Header.{total, strings}
+use Rattle.header.specs.Blocks.{sixteenths, blocksOf, blocksOfAll}
 use Rattle.s2v.specs.S2v.{absorbWork, headerResult, headerWork, tagFromWork, s2vWork}
 use Rattle.s2v.proofs.Laws.{tag-work, length-headerResult}
 use Rattle.ctr.specs.Counter.{blocksBegun, keyStreamWork}
 use Rattle.ctr.proofs.Laws.{stream-work}
 use Rattle.siv.specs.Siv.{macKey, tagOfWork, streamedWork, sealedWork, opened, genuineWork}
-use Rattle.siv.specs.Work.{sixteenths, blocksOf, blocksOfAll, blockWork}
+use Rattle.siv.specs.Work.{blockWork}
 use Rattle.siv.proofs.Laws.{length-opened}
-
--- a header string has a block at the most for every 16 bytes, and one
-pub blocks-most : (lens : List ℕ) → 16 * blocksOfAll lens ≤ 16 * length lens + total lens
-unfolding blocksOfAll total
-blocks-most [] = omega arith
-blocks-most (n ∷ lens) = omega (arith, blocks-most lens)
-
-pub blocks-append : (a b : List ℕ) → blocksOfAll (a ++ b) ≡ blocksOfAll a + blocksOfAll b
-unfolding blocksOfAll
-blocks-append [] b = omega arith
-blocks-append (n ∷ a) b = omega (arith, blocks-append a b)
-
--- one string more, and all of them
-pub blocks-next : (lens : List ℕ) (i : ℕ) → i < length lens → blocksOfAll (take (i + 1) lens) ≡ blocksOfAll (take i lens) + blocksOf (getD lens i 0)
-unfolding blocksOfAll
-blocks-next lens i h =
-    ap (λ (n : ℕ). blocksOfAll (take n lens)) (add-one i)
-    ∙ ap blocksOfAll (take-suc lens i 0 h)
-    ∙ blocks-append (take i lens) (getD lens i 0 ∷ [])
-    ∙ ap (λ (n : ℕ). blocksOfAll (take i lens) + n) (add-zero (blocksOf (getD lens i 0)))
-
-pub blocks-all : (lens : List ℕ) (i : ℕ) → length lens ≤ i → blocksOfAll (take i lens) ≡ blocksOfAll lens
-blocks-all lens i h = ap blocksOfAll (take-all i lens h)
 
 -- ---- S2V
 

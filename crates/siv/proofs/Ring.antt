@@ -13,15 +13,16 @@ use lib.ListN.{length, take, drop, replicate, length-take, length-drop}
 use borrow.Author.Tests.{eqb-true, eqb-false, eq-eqb, ne-eqb, ltb-true, ltb-false}
 use Rattle.octets.specs.Octets.{put}
 use Rattle.header.specs.Header.{strings}
-use Rattle.siv.specs.declared.Answer.{Answer}
+use Rattle.answers.specs.declared.Answer.{Answer}
+use Rattle.answers.specs.Answer.{Outcome, Row, first, outcomeOf, success, numberAlone, forged}
+use Rattle.answers.proofs.Laws.{first-none, first-pass, first-stop, outcome-with}
 use Rattle.siv.specs.declared.RingAnswer.{RingAnswer}
-use Rattle.siv.specs.Answer.{Outcome, Row, first, outcomeOf, success, numberAlone, forged}
 use Rattle.siv.specs.Calls.{isKeyLength, limit, scratchNeed, headerRows, openRows, DidCall}
 use Rattle.siv.specs.Ring.{isRing, slotCount, slotKey, firstSlot, triedWork, ringRows, RingResult, refusedRing, DidRing, openSlot, opensAt, workAt, openSlotWith, openRing}
 use Rattle.siv.specs.Siv.{opened, genuine, genuineWork}
 use Rattle.siv.specs.Work.{blockWork}
 use Rattle.siv.proofs.Lengths.{genuine-lengths}
-use Rattle.siv.proofs.Laws.{first-none, first-pass, first-stop, outcome-with, openJudged, open-admits, open-due, open-due-work, open-count, open-number, open-work, open-refused, open-delivered, length-opened, text-read, scratch-wiped}
+use Rattle.siv.proofs.Laws.{openJudged, open-admits, open-due, open-due-work, open-count, open-number, open-work, open-refused, open-delivered, length-opened, text-read, scratch-wiped}
 
 -- ---- lengths
 

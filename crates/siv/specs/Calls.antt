@@ -10,8 +10,8 @@ use denote.Ref.{RefT, now}
 use denote.Triple.Both.{Both}
 use Rattle.octets.specs.Octets.{put}
 use Rattle.header.specs.Header.{total, strings}
+use Rattle.answers.specs.Answer.{Outcome, numberAlone, Row, row, first, outcomeOf}
 use Rattle.siv.specs.declared.Report.{Report}
-use Rattle.siv.specs.Answer.{Outcome, numberAlone, Row, row, first, outcomeOf}
 use Rattle.siv.specs.Siv.{sealed, sealedWork, opened, genuine, genuineWork}
 
 -- keys have 32, 48 or 64 bytes

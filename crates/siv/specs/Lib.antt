@@ -1,4 +1,3 @@
-pub mod Answer
 pub mod Siv
 pub mod Calls
 pub mod Ring

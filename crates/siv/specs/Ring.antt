@@ -8,8 +8,8 @@ use lib.Dec.{ltb, eqb}
 use lib.ListN.{length}
 use denote.Ref.{now}
 use Rattle.octets.specs.Octets.{part}
+use Rattle.answers.specs.Answer.{Row, row, first}
 use Rattle.siv.specs.declared.RingAnswer.{RingAnswer}
-use Rattle.siv.specs.Answer.{Row, row, first}
 use Rattle.siv.specs.Calls.{isKeyLength, CallResult, refusedCall, DidCall, openCall, Lent}
 
 -- whether n bytes are one to four whole keys of the stated length

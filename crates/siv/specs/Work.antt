@@ -1,24 +1,12 @@
 -- The work of whole sealing and opening from lengths alone: the sum in slip 5 of document 02.
 -- Assumes nothing.
 use mathlib.Core.Bool.{cond, _||_}
-use mathlib.Core.List.{List, [], _∷_}
-use Prim.Native.Nat.{ℕ, _+_, _/_, max}
+use mathlib.Core.List.{List}
+use Prim.Native.Nat.{ℕ, _+_}
 use lib.Dec.{ltb}
 use lib.ListN.{length}
+use Rattle.header.specs.Blocks.{sixteenths, blocksOf, blocksOfAll}
 use Rattle.siv.specs.Calls.{limit}
-
--- n divided by 16, rounded up
-abbrev pub sixteenths : ℕ → ℕ
-sixteenths n = (n + 15) / 16
-
--- how many blocks a string of n bytes has; an empty string has one
-abbrev pub blocksOf : ℕ → ℕ
-blocksOf n = max (sixteenths n) 1
-
--- the blocks of strings of these lengths
-unfoldable pub blocksOfAll : List ℕ → ℕ
-blocksOfAll [] = 0
-blocksOfAll (n ∷ lens) = blocksOf n + blocksOfAll lens
 
 -- 2, for L and the CMAC of the zero block; the blocks of each header string and of the plaintext; and the plaintext's length divided by 16, rounded up
 abbrev pub blockWork : List ℕ → ℕ → ℕ

@@ -9,17 +9,17 @@ ghost use Rattle.aes.specs.Engine.{Ready};
 ghost use Rattle.aes.specs.Work.{Reports};
 ghost use Rattle.header.specs.Header.{total, strings};
 ghost use Rattle.s2v.specs.S2v.{s2v, s2vWork};
-ghost use Rattle.siv.specs.Answer.{outcomeOf, success, forged};
+ghost use Rattle.answers.specs.Answer.{outcomeOf, success, forged};
 ghost use Rattle.siv.specs.Calls.{isKeyLength, scratchNeed, Usable};
 ghost use Rattle.siv.specs.Ring.{slotKey, firstSlot, triedWork};
 ghost use Rattle.siv.specs.Siv.{tagOf, tagOfWork, streamed, streamedWork, sealed, sealedWork, opened, genuine, genuineWork};
-use crate::Answer;
-use crate::Refusal;
 use crate::TAG_LEN;
 use crate::judge;
 use aes::Counted;
 use aes::Engine;
 use aes::RoundKeys;
+use answers::Answer;
+use answers::Refusal;
 use octets::Block;
 
 // Whether a string is genuine, and the work that it took to tell.

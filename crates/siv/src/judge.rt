@@ -2,13 +2,13 @@
 ghost use mathlib.Core.Path.{_≡_};
 ghost use mathlib.Core.List.{_++_};
 ghost use Prim.Native.Nat.{_<_};
-ghost use Rattle.siv.specs.Answer.{outcomeOf, first, numberAlone};
+ghost use Rattle.answers.specs.Answer.{outcomeOf, first, numberAlone};
 ghost use Rattle.siv.specs.Calls.{scratchNeed, headerRows, sealRows, openRows};
 ghost use Rattle.siv.specs.Ring.{isRing, ringRows};
-use crate::Answer;
 use crate::LIMIT;
-use crate::Refusal;
 use crate::TAG_LEN;
+use answers::Answer;
+use answers::Refusal;
 
 // The least scratch.
 const SCRATCH_MIN: usize = 16;

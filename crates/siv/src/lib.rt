@@ -3,49 +3,16 @@ mod admitted;
 pub mod judge;
 
 ghost use mathlib.Core.Path.{_≡_};
-ghost use Prim.Native.Nat.{_*_, _^_, _≤_};
-ghost use lib.ListN.{length};
 ghost use Rattle.siv.specs.Calls.{isKeyLength, sealCall, openCall, Performs};
 ghost use Rattle.siv.specs.Ring.{PerformsRing};
-ghost use Rattle.siv.specs.Work.{blocksOf, blocksOfAll, plannedWork};
+ghost use Rattle.siv.specs.Work.{plannedWork};
+use answers::Answer;
 
 // The longest plaintext.
 pub const LIMIT: usize = 1048576;
 
 // The length of a tag.
 pub const TAG_LEN: usize = 16;
-
-// Why a call is refused, in the order of the numbers.
-pub enum Refusal {
-    // The key has not 32, 48 or 64 bytes.
-    KeyLength,
-    // More than 126 header strings.
-    HeaderCount,
-    // The lengths do not sum to the header bytes.
-    HeaderLengths,
-    // The plaintext, or the sealed string, is too long.
-    TooLong,
-    // The sealed string is shorter than a tag, or a tag has not 16 bytes.
-    SealedLength,
-    // The output is too short.
-    OutputShort,
-    // The scratch is too short.
-    ScratchShort,
-    // The recomputed tag is not the given one.
-    Forged,
-    // The stream state, or the head, is not one for this call.
-    State,
-    // The nonce is empty.
-    EmptyNonce,
-    // The ring is not one to four whole keys.
-    RingLength,
-}
-
-// Success with a count of bytes, or a refusal.
-pub enum Answer {
-    Ok(usize),
-    Refused(Refusal),
-}
 
 // An answer, and how many blocks went through the cipher for it: 0 after a refusal other than Forged, which took as many as success.
 pub struct Report {
@@ -181,31 +148,6 @@ pub fn open_ring(
     }
 }
 
-// How many blocks a string of n bytes has.
-fn blocks_of(n: usize) -> usize
-    ensures { λ r. ⌜ r ≡ blocksOf n ⌝ }
-{
-    if n == 0 {
-        return 1;
-    }
-    (n - 1) / 16 + 1
-}
-
-// The blocks of strings of these lengths.
-fn blocks_of_all(lens: &[u32]) -> usize
-    requires { ⌜ length (now lens) ≤ 126 ⌝ }
-    ensures all { λ r. ⌜ r ≡ blocksOfAll (now (lens .entry)) ⌝ }
-    ensures small { λ r. ⌜ r ≤ 126 * 2 ^ 28 ⌝ }
-{
-    let mut blocks = 0;
-    let mut i = 0;
-    while i < lens.len() {
-        blocks = blocks + blocks_of(header::length_at(lens, i));
-        i += 1;
-    }
-    blocks
-}
-
 // What whole sealing of n bytes under header strings of these lengths, or opening of what it gives, will report as its work; 0 for more than 126 strings and for n over the limit.
 pub fn planned_work(lens: &[u32], n: usize) -> usize
     ensures { λ r. ⌜ r ≡ plannedWork (now (lens .entry)) n ⌝ }
@@ -216,5 +158,5 @@ pub fn planned_work(lens: &[u32], n: usize) -> usize
     if LIMIT < n {
         return 0;
     }
-    2 + blocks_of_all(lens) + blocks_of(n) + (n + 15) / 16
+    2 + header::blocks_of_all(lens) + header::blocks_of(n) + (n + 15) / 16
 }

@@ -1,6 +1,8 @@
 // RFC 5297's appendix A sealed and opened, under the example's key and under a ring of both keys, and each sealed string with one bit of each byte changed in turn.
 ghost use Prim.Native.Nat.{_≤_, _<_};
 ghost use lib.ListN.{length};
+use answers::Answer;
+use answers::Refusal;
 use rfc5297::A1_AD;
 use rfc5297::A1_KEY;
 use rfc5297::A1_LENS;
@@ -9,8 +11,6 @@ use rfc5297::A2_HEADER;
 use rfc5297::A2_KEY;
 use rfc5297::A2_LENS;
 use rfc5297::A2_PLAINTEXT;
-use siv::Answer;
-use siv::Refusal;
 
 // Whether all bytes are zero.
 fn zeros(s: &[u8]) -> bool {

@@ -14,19 +14,19 @@ use borrow.Author.Tests.{eqb-true, eq-eqb, ne-eqb, lt-ltb, le-ltb, ltb-false, no
 use Rattle.octets.specs.Octets.{xors, put, part, same}
 use Rattle.octets.proofs.Strings.{part-to, length-xors, put-put}
 use Rattle.aes.specs.Aes.{isWidth}
-use Rattle.aes.proofs.Widths.{width, length-cipher}
 use Rattle.aes.specs.Cipher.{cipher}
+use Rattle.aes.proofs.Widths.{width, length-cipher}
 use Rattle.cmac.specs.Cmac.{chain}
 use Rattle.s2v.specs.S2v.{tailLength}
 use Rattle.s2v.proofs.Laws.{Tail, tail, tail-short, tail-long}
 use Rattle.ctr.specs.Counter.{keyStreamWork, xorStream, noBlock, begunBlock, leftOver, pieceWork, xorPiece, keptAfter}
 use Rattle.ctr.proofs.Laws.{pieceWork-within, pieceWork-beyond, pieceWork-fresh, length-xorPiece, xorPiece-within, keptAfter-within, xorPiece-beyond, keptAfter-beyond, xorPiece-fresh, keptAfter-fresh}
-use Rattle.siv.specs.declared.Answer.{Answer}
-use Rattle.siv.specs.declared.Answer.the-variants.{Ok, Refused}
-use Rattle.siv.specs.declared.Refusal.the-variants.{Forged}
-use Rattle.siv.specs.Answer.{Outcome, Row, row, first, outcomeOf, success, numberAlone, forged}
+use Rattle.answers.specs.declared.Answer.{Answer}
+use Rattle.answers.specs.declared.Answer.the-variants.{Ok, Refused}
+use Rattle.answers.specs.declared.Refusal.the-variants.{Forged}
+use Rattle.answers.specs.Answer.{Outcome, Row, row, first, outcomeOf, success, numberAlone, forged}
+use Rattle.answers.proofs.Laws.{lacks, outcome-number, outcome-work, not-due, first-not, first-pass, first-stop, first-append}
 use Rattle.siv.specs.Calls.{limit}
-use Rattle.siv.proofs.Laws.{lacks, outcome-number, outcome-work, not-due, first-not, first-pass, first-stop, first-append}
 use Rattle.head.specs.declared.Head.{Head}
 use Rattle.head.specs.declared.Made.{Made}
 use Rattle.head.specs.Head.{MakeResult, DidMake, settleHead}

@@ -10,7 +10,7 @@ use Rattle.octets.specs.Octets.{put, same}
 use Rattle.cmac.specs.Cmac.{zeros}
 use Rattle.header.specs.Header.{strings}
 use Rattle.ctr.specs.Counter.{pieceWork}
-use Rattle.siv.specs.Answer.{Outcome, success, numberAlone, forged, outcomeOf, Row, row, first}
+use Rattle.answers.specs.Answer.{Outcome, success, numberAlone, forged, outcomeOf, Row, row, first}
 use Rattle.siv.specs.Calls.{limit, headerRows}
 use Rattle.head.specs.declared.Head.{Head}
 use Rattle.head.specs.Head.{headOf, headOfWork, extended, extendedWork, restRows}

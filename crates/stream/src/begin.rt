@@ -3,17 +3,17 @@ ghost use mathlib.Core.Path.{_≡_};
 ghost use mathlib.Core.Bool.{cond};
 ghost use mathlib.Core.List.{[]};
 ghost use lib.Dec.{eqb};
-ghost use Rattle.siv.specs.Answer.{outcomeOf};
+ghost use Rattle.answers.specs.Answer.{outcomeOf};
 ghost use Rattle.stream.specs.State.{ended, start};
 ghost use Rattle.stream.specs.Steps.{DidStep, refusedStep, beginBy};
 use crate::Step;
 use crate::Stream;
 use crate::ended;
+use answers::Answer;
+use answers::Refusal;
 use head::Head;
 use head::Made;
 use octets::Block;
-use siv::Answer;
-use siv::Refusal;
 
 // The state that a head starts, in a stage and with a tag.
 fn start(head: Head, stage: u8, v: Block) -> Stream

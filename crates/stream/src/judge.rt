@@ -5,12 +5,12 @@ ghost use Prim.Native.Nat.{_+_, _≤_};
 ghost use lib.Dec.{eqb, ltb};
 ghost use lib.ListN.{length, drop};
 ghost use Rattle.s2v.specs.S2v.{tailLength};
-ghost use Rattle.siv.specs.Answer.{outcomeOf, first, numberAlone};
+ghost use Rattle.answers.specs.Answer.{outcomeOf, first, numberAlone};
 ghost use Rattle.stream.specs.State.{allZero, writtenLimit, streamPlace, keptFits, fits};
 ghost use Rattle.stream.specs.Steps.{addRows, turnRows, writeRows, feedRows, finishRows};
 use crate::Stream;
-use siv::Answer;
-use siv::Refusal;
+use answers::Answer;
+use answers::Refusal;
 
 // Whether what was zero so far is, with a byte more at place i, which counts from place at on.
 fn still_zero(zero: bool, i: usize, at: usize, b: u8) -> bool

@@ -9,10 +9,10 @@ ghost use mathlib.Core.List.{[]};
 ghost use Rattle.stream.specs.State.{ended};
 ghost use Rattle.stream.specs.Steps.{DidStep, beginSealer, beginOpener, beginSealerFrom, beginOpenerFrom, addStep, turnStep, writeStep, closeStep, feedStep, finishStep};
 use aes::RoundKeys;
+use answers::Answer;
+use answers::Refusal;
 use head::Head;
 use octets::Block;
-use siv::Answer;
-use siv::Refusal;
 
 // The bytes that wait for the plaintext's end, and zeros behind them.
 pub type Tail = [u8; 31];

@@ -3,11 +3,11 @@ mod heads;
 
 ghost use Prim.Native.Nat.{_+_, _≤_, _<_};
 ghost use lib.ListN.{length};
+use answers::Answer;
 use rfc5297::A2_HEADER;
 use rfc5297::A2_KEY;
 use rfc5297::A2_LENS;
 use rfc5297::A2_PLAINTEXT;
-use siv::Answer;
 use stream::Step;
 use stream::Stream;
 

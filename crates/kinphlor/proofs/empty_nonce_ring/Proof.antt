@@ -5,9 +5,9 @@ use mathlib.Core.Bool.{Bool, _&&_}
 use lib.Dec.{eqb}
 use borrow.Author.Needs.{needs}
 use borrow.Author.Tests.{eq-eqb, ne-eqb}
-use Rattle.siv.specs.Answer.{Outcome, first, numberAlone, outcomeOf}
+use Rattle.answers.specs.Answer.{Outcome, first, numberAlone, outcomeOf}
+use Rattle.answers.proofs.Laws.{told-refused, passed}
 use Rattle.siv.specs.Ring.{ringRows}
-use Rattle.siv.proofs.Laws.{told-refused, passed}
 use Rattle.kinphlor.specs.Interface.{emptyNonceRing}
 use Rattle.kinphlor.proofs.empty_nonce_ring.Statement.{statement}
 use Rattle.kinphlor.proofs.empty_nonce_ring.Tie as tie

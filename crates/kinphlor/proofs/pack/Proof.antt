@@ -6,10 +6,10 @@ use mathlib.Core.Path.{ap, sym, _∙_}
 use Prim.Native.Nat.{ℕ, _*_}
 use native.Mathlib.Nat.{zero-add, add-zero}
 use native.Mathlib.Omega.{arith}
-use Rattle.siv.specs.declared.Answer.{Answer}
-use Rattle.siv.specs.Answer.{outcomeOf}
+use Rattle.answers.specs.declared.Answer.{Answer}
+use Rattle.answers.specs.Answer.{outcomeOf}
+use Rattle.answers.proofs.Laws.{number-most}
 use Rattle.kinphlor.specs.Interface.{packed}
-use Rattle.kinphlor.proofs.Laws.{number-most}
 use Rattle.kinphlor.proofs.pack.Statement.{statement}
 use Rattle.kinphlor.proofs.pack.Tie as tie
 

@@ -8,10 +8,11 @@ use lib.Dec.{ltb}
 use lib.ListN.{length}
 use borrow.Author.Needs.{needs}
 use borrow.Author.Tests.{lt-ltb, le-ltb}
-use Rattle.siv.specs.Answer.{outcomeOf, success, forged}
+use Rattle.answers.specs.Answer.{outcomeOf, success, forged}
+use Rattle.answers.proofs.Laws.{told-refused, passed}
 use Rattle.siv.specs.Calls.{isKeyLength}
 use Rattle.siv.specs.Ring.{slotCount, slotKey}
-use Rattle.siv.proofs.Laws.{told-refused, passed, OpenAdmits, open-admits}
+use Rattle.siv.proofs.Laws.{OpenAdmits, open-admits}
 use Rattle.siv.proofs.Ring.{key-length-some, RingWhole, ring-admits, ringJudged, ring-judged, slot-passed, ring-refused, ring-delivered}
 use Rattle.siv.proofs.open_ring.Statement.{statement}
 use Rattle.siv.proofs.open_ring.Tie as tie

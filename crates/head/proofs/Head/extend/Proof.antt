@@ -4,8 +4,8 @@ use mathlib.Core.Path.{_≡_}
 use native.Mathlib.Omega.{arith}
 use lib.ListN.{length}
 use borrow.Author.Needs.{needs}
-use Rattle.siv.specs.Answer.{first}
-use Rattle.siv.proofs.Laws.{told-refused, passed}
+use Rattle.answers.specs.Answer.{first}
+use Rattle.answers.proofs.Laws.{told-refused, passed}
 use Rattle.head.specs.Head.{restRows, extendHead}
 use Rattle.head.proofs.Laws.{rest-admits, make-refused, make-done}
 use Rattle.head.proofs.Head.extend.Statement.{statement}

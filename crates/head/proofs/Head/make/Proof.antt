@@ -3,9 +3,10 @@
 use mathlib.Core.Path.{_≡_}
 use lib.ListN.{length}
 use borrow.Author.Needs.{needs}
-use Rattle.siv.specs.Answer.{first}
+use Rattle.answers.specs.Answer.{first}
+use Rattle.answers.proofs.Laws.{told-refused, passed}
 use Rattle.siv.specs.Calls.{headerRows}
-use Rattle.siv.proofs.Laws.{header-usable, told-refused, passed}
+use Rattle.siv.proofs.Laws.{header-usable}
 use Rattle.head.specs.Head.{makeHead}
 use Rattle.head.proofs.Laws.{make-refused, make-done}
 use Rattle.head.proofs.Head.make.Statement.{statement}

@@ -2,7 +2,7 @@
 -- Assumes nothing.
 use mathlib.Core.Path.{ap}
 use borrow.Author.Needs.{needs}
-use Rattle.siv.specs.Answer.{success}
+use Rattle.answers.specs.Answer.{success}
 use Rattle.head.specs.Head.{extendedWork}
 use Rattle.head.proofs.Laws.{goes-on, stays, stays-work}
 use Rattle.head.proofs.admitted.extended.Statement.{statement}

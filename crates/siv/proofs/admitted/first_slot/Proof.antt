@@ -10,10 +10,11 @@ use borrow.Author.Needs.{needs}
 use Rattle.octets.specs.Octets.{put}
 use Rattle.octets.proofs.Strings.{part-rest}
 use Rattle.header.specs.Header.{strings}
+use Rattle.header.proofs.Laws.{blocks-most}
 use Rattle.siv.specs.Ring.{slotKey}
 use Rattle.siv.specs.Siv.{genuine, genuineWork}
 use Rattle.siv.proofs.Laws.{length-opened, opened-by, genuine-by, genuine-work-by, put-beyond, put-rest}
-use Rattle.siv.proofs.Lengths.{blocks-most, genuine-lengths}
+use Rattle.siv.proofs.Lengths.{genuine-lengths}
 use Rattle.siv.proofs.Ring.{slot-within, Searching, searching-none, searching-more, searching-found, searching-all}
 use Rattle.siv.proofs.admitted.first_slot.Statement.{statement}
 use Rattle.siv.proofs.admitted.first_slot.Tie as tie

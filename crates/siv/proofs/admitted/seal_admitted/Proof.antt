@@ -8,8 +8,9 @@ use lib.ListN.{length}
 use borrow.Author.Needs.{needs}
 use Rattle.octets.specs.Octets.{put}
 use Rattle.octets.proofs.Strings.{put-put}
+use Rattle.header.proofs.Laws.{blocks-most}
 use Rattle.siv.specs.Siv.{streamed, sealed, sealedWork}
-use Rattle.siv.proofs.Lengths.{blocks-most, tag-of-lengths, streamed-lengths}
+use Rattle.siv.proofs.Lengths.{tag-of-lengths, streamed-lengths}
 use Rattle.siv.proofs.admitted.seal_admitted.Statement.{statement}
 use Rattle.siv.proofs.admitted.seal_admitted.Tie as tie
 

@@ -11,10 +11,11 @@ use Rattle.aes.proofs.Widths.{length-cipher}
 use Rattle.cmac.specs.declared.Subkeys.{Subkeys}
 use Rattle.cmac.specs.Cmac.{subkeys}
 use Rattle.header.specs.Header.{strings}
+use Rattle.header.specs.Blocks.{blocksOf, blocksOfAll}
+use Rattle.header.proofs.Laws.{blocks-most}
 use Rattle.s2v.specs.S2v.{headerResult, tagFromWork, tag, s2v, s2vWork}
 use Rattle.s2v.proofs.Laws.{length-headerResult}
-use Rattle.siv.specs.Work.{blocksOf, blocksOfAll}
-use Rattle.siv.proofs.Lengths.{blocks-most, header-lengths, tag-lengths}
+use Rattle.siv.proofs.Lengths.{header-lengths, tag-lengths}
 use Rattle.siv.proofs.admitted.tag_under.Statement.{statement}
 use Rattle.siv.proofs.admitted.tag_under.Tie as tie
 

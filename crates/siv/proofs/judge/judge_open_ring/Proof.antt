@@ -3,9 +3,9 @@
 use mathlib.Core.Path.{refl, _∙_}
 use mathlib.Core.List.{_++_}
 use borrow.Author.Needs.{needs}
+use Rattle.answers.proofs.Laws.{still-due, next-due}
 use Rattle.siv.specs.Calls.{headerRows, openRows}
 use Rattle.siv.specs.Ring.{ringRows}
-use Rattle.siv.proofs.Laws.{still-due, next-due}
 use Rattle.siv.proofs.judge.judge_open_ring.Statement.{statement}
 use Rattle.siv.proofs.judge.judge_open_ring.Tie as tie
 

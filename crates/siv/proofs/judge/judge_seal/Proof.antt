@@ -2,8 +2,8 @@
 -- Assumes nothing.
 use mathlib.Core.Path.{refl, _∙_}
 use borrow.Author.Needs.{needs}
+use Rattle.answers.proofs.Laws.{still-due, next-due}
 use Rattle.siv.specs.Calls.{headerRows, sealRows}
-use Rattle.siv.proofs.Laws.{still-due, next-due}
 use Rattle.siv.proofs.judge.judge_seal.Statement.{statement}
 use Rattle.siv.proofs.judge.judge_seal.Tie as tie
 

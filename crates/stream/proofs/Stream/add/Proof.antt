@@ -3,8 +3,8 @@
 use mathlib.Core.Path.{_≡_, refl, ap}
 use lib.ListN.{length}
 use borrow.Author.Needs.{needs}
-use Rattle.siv.specs.Answer.{success, first}
-use Rattle.siv.proofs.Laws.{told-refused, passed}
+use Rattle.answers.specs.Answer.{success, first}
+use Rattle.answers.proofs.Laws.{told-refused, passed}
 use Rattle.stream.specs.Steps.{addRows, addStep}
 use Rattle.stream.proofs.Laws.{refused, done, add-admits}
 use Rattle.stream.proofs.Stream.add.Statement.{statement}

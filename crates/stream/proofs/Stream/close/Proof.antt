@@ -3,10 +3,10 @@
 use mathlib.Core.Path.{refl, ap, sym, _∙_}
 use mathlib.Core.Bool.{Bool, not, cond}
 use borrow.Author.Needs.{needs}
-use Rattle.siv.specs.declared.Answer.the-variants.{Refused}
-use Rattle.siv.specs.declared.Refusal.the-variants.{State}
-use Rattle.siv.specs.Answer.{numberAlone}
-use Rattle.siv.proofs.Laws.{refusal-number}
+use Rattle.answers.specs.declared.Answer.the-variants.{Refused}
+use Rattle.answers.specs.declared.Refusal.the-variants.{State}
+use Rattle.answers.specs.Answer.{numberAlone}
+use Rattle.answers.proofs.Laws.{refusal-number}
 use Rattle.stream.specs.Steps.{closeStep}
 use Rattle.stream.proofs.Laws.{refused, done}
 use Rattle.stream.proofs.Stream.close.Statement.{statement}

@@ -10,8 +10,8 @@ use Rattle.cmac.specs.Cmac.{chainWork}
 use Rattle.cmac.proofs.Laws.{chain-work}
 use Rattle.ctr.specs.Counter.{newBlocks, pieceWork}
 use Rattle.ctr.proofs.Laws.{stream-work}
-use Rattle.siv.specs.Answer.{success, first}
-use Rattle.siv.proofs.Laws.{told-refused, passed}
+use Rattle.answers.specs.Answer.{success, first}
+use Rattle.answers.proofs.Laws.{told-refused, passed}
 use Rattle.stream.specs.State.{leavingBlocks, stateWith, added, addedWork, streamedAt, streamedWith}
 use Rattle.stream.specs.Steps.{feedRows, deciphered, feedStep}
 use Rattle.stream.proofs.Laws.{refused, done, feed-admits, cut, length-streamedAt, read-back}

@@ -7,8 +7,8 @@ use native.Mathlib.Omega.{arith}
 use lib.ListN.{length}
 use borrow.Author.Needs.{needs}
 use Rattle.octets.specs.Octets.{same}
-use Rattle.siv.specs.Answer.{first}
-use Rattle.siv.proofs.Laws.{told-refused, passed}
+use Rattle.answers.specs.Answer.{first}
+use Rattle.answers.proofs.Laws.{told-refused, passed}
 use Rattle.stream.specs.State.{tagOfState}
 use Rattle.stream.specs.Steps.{finishRows}
 use Rattle.stream.proofs.Laws.{finish-admits, finish-refused, finish-done, finish-forged}

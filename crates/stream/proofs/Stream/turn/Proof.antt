@@ -4,8 +4,8 @@ use mathlib.Core.Path.{_≡_, ap, _∙_}
 use lib.ListN.{length}
 use borrow.Author.Needs.{needs}
 use Rattle.octets.specs.Octets.{put}
-use Rattle.siv.specs.Answer.{success, first}
-use Rattle.siv.proofs.Laws.{told-refused, passed}
+use Rattle.answers.specs.Answer.{success, first}
+use Rattle.answers.proofs.Laws.{told-refused, passed}
 use Rattle.stream.specs.Steps.{turnRows, turned, turnStep}
 use Rattle.stream.proofs.Laws.{refused, done, turn-admits}
 use Rattle.stream.proofs.Stream.turn.Statement.{statement}

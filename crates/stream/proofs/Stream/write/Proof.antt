@@ -6,8 +6,8 @@ use Prim.Native.Nat.{ℕ, _+_}
 use native.Mathlib.Omega.{arith}
 use lib.ListN.{length}
 use borrow.Author.Needs.{needs}
-use Rattle.siv.specs.Answer.{success, first}
-use Rattle.siv.proofs.Laws.{told-refused, passed}
+use Rattle.answers.specs.Answer.{success, first}
+use Rattle.answers.proofs.Laws.{told-refused, passed}
 use Rattle.stream.specs.State.{streamedWith}
 use Rattle.stream.specs.Steps.{writeRows, writeStep}
 use Rattle.stream.proofs.Laws.{refused, done, write-admits}

@@ -2,7 +2,7 @@
 -- Assumes nothing.
 use mathlib.Core.Path.{refl}
 use borrow.Author.Needs.{needs}
-use Rattle.siv.proofs.Laws.{told-refused, told-ok, told-length}
+use Rattle.answers.proofs.Laws.{told-refused, told-ok, told-length}
 use Rattle.stream.proofs.Laws.{begin-refused, done}
 use Rattle.stream.proofs.begin.begun.Statement.{statement}
 use Rattle.stream.proofs.begin.begun.Tie as tie

@@ -3,7 +3,7 @@
 use mathlib.Core.Path.{refl}
 use borrow.Author.Needs.{needs}
 use borrow.Author.Tests.{eq-eqb, ne-eqb}
-use Rattle.siv.proofs.Laws.{told-refused, told-ok, told-length}
+use Rattle.answers.proofs.Laws.{told-refused, told-ok, told-length}
 use Rattle.stream.proofs.begin.untagged.Statement.{statement}
 use Rattle.stream.proofs.begin.untagged.Tie as tie
 

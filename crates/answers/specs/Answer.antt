@@ -3,10 +3,10 @@
 use mathlib.Core.Bool.{Bool, cond}
 use mathlib.Core.List.{List, [], _∷_}
 use Prim.Native.Nat.{ℕ}
-use Rattle.siv.specs.declared.Refusal.{Refusal}
-use Rattle.siv.specs.declared.Refusal.the-variants.{KeyLength, HeaderCount, HeaderLengths, TooLong, SealedLength, OutputShort, ScratchShort, Forged, State, EmptyNonce, RingLength}
-use Rattle.siv.specs.declared.Answer.{Answer}
-use Rattle.siv.specs.declared.Answer.the-variants.{Ok, Refused}
+use Rattle.answers.specs.declared.Refusal.{Refusal}
+use Rattle.answers.specs.declared.Refusal.the-variants.{KeyLength, HeaderCount, HeaderLengths, TooLong, SealedLength, OutputShort, ScratchShort, Forged, State, EmptyNonce, RingLength, HeaderPlan}
+use Rattle.answers.specs.declared.Answer.{Answer}
+use Rattle.answers.specs.declared.Answer.the-variants.{Ok, Refused}
 
 -- the number and the length that a call returns, and its work in blocks
 pub record Outcome : Type 0 where
@@ -27,6 +27,7 @@ numberOf Forged = 8
 numberOf State = 9
 numberOf EmptyNonce = 10
 numberOf RingLength = 11
+numberOf HeaderPlan = 12
 
 -- success with a length and its work; a number with length 0 and no work; and 8, which has work
 abbrev pub success : ℕ → ℕ → Outcome

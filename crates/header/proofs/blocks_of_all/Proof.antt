@@ -1,14 +1,14 @@
--- `siv::blocks_of_all` meets its contract: after i turns the blocks of i strings are counted.
+-- `header::blocks_of_all` meets its contract: after i turns the blocks of i strings are counted.
 -- Assumes nothing.
 use mathlib.Core.Path.{_≡_, refl, ap, _∙_}
 use Prim.Native.Nat.{ℕ, _-_, _*_, _≤_, _<_, _^_}
 use native.Mathlib.Omega.{arith}
 use lib.ListN.{length, getD, take}
 use borrow.Author.Needs.{needs}
-use Rattle.siv.specs.Work.{blocksOf, blocksOfAll}
-use Rattle.siv.proofs.Lengths.{blocks-next, blocks-all}
-use Rattle.siv.proofs.blocks_of_all.Statement.{statement}
-use Rattle.siv.proofs.blocks_of_all.Tie as tie
+use Rattle.header.specs.Blocks.{blocksOf, blocksOfAll}
+use Rattle.header.proofs.Laws.{blocks-next, blocks-all}
+use Rattle.header.proofs.blocks_of_all.Statement.{statement}
+use Rattle.header.proofs.blocks_of_all.Tie as tie
 
 abbrev Inv-loop : tie.InvT-loop
 Inv-loop lens blocks₀ i₀ blocks i = (i ≤ length lens) × (blocks ≡ blocksOfAll (take i lens)) × (blocks ≤ i * 268435456)
