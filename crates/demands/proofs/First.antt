@@ -18,6 +18,7 @@ use Rattle.answers.specs.declared.Refusal.{Refusal}
 use Rattle.answers.specs.declared.Refusal.the-variants.{KeyLength, HeaderCount, HeaderLengths, TooLong, SealedLength, OutputShort, ScratchShort, Forged, State, EmptyNonce, RingLength, HeaderPlan}
 use Rattle.answers.specs.Answer.{Outcome, Row, row, first, success, numberAlone, forged, numberOf, outcomeOf}
 use Rattle.answers.proofs.Laws.{lacks, first-not, first-pass, first-stop, first-none, refusal-number, outcome-work, none-where}
+use Rattle.dearest.specs.Dearest.{planRows, GivesDearest}
 use Rattle.siv.specs.Calls.{CallResult, refusedCall, isKeyLength, headerRows, openRows, sealTable, sealNumber, sealCall, openTable, openNumber, openCall}
 use Rattle.siv.specs.Ring.{slotCount, slotKey, ringRows, RingResult, openSlot, opensAt}
 use Rattle.siv.specs.Siv.{genuine, genuineWork}
@@ -32,7 +33,7 @@ use Rattle.stream.specs.declared.Stream.{Stream}
 use Rattle.stream.specs.State.{ended, start, tagOfStateWork}
 use Rattle.stream.specs.Steps.{StepResult, doneStep, refusedStep, settle, tagRows, beginBy, beginSealer, beginOpener, beginSealerFrom, beginOpenerFrom, addStep, turnStep, writeStep, closeStep, feedStep, finishTable, forgedStep, finishStep}
 use Rattle.kinphlor.specs.Interface.{aeadLens, emptyNonce, fromC}
-use Rattle.demands.specs.First.{order, keeps, FirstDue, none, here, later, FirstSeal, FirstOpen, rowsFromC, FirstFromC, noSlot, FirstRing, restTable, FirstHead, FirstStep, FirstFinish, First}
+use Rattle.demands.specs.First.{order, keeps, FirstDue, none, here, later, FirstSeal, FirstOpen, rowsFromC, FirstFromC, noSlot, FirstRing, FirstDearest, restTable, FirstHead, FirstStep, FirstFinish, First}
 use Rattle.demands.proofs.Parts.{from-c-parts, ring-parts}
 use Rattle.demands.proofs.Pieces.{piece-work, added-work}
 use Rattle.demands.proofs.Slots.{chosen-noSlot, ring-comes-from-c}
@@ -215,6 +216,20 @@ module _ (keyLength : ℕ) (ring bytes lens input output scratch : List ℕ) whe
           slotless = λ m. chosen-closed _ count g (ne-eqb _ 0 m);
         }
 
+-- ---- the dearest header list
+
+by-plan : (h k least : ℕ) {outcome : Outcome} {places : List ℕ} {blocks : ℕ} → GivesDearest h k least outcome places blocks → FirstDearest h k least outcome places blocks
+by-plan h k least {outcome = outcome} g =
+    let number : outcome .number ≡ first (planRows h k least) = ap (λ (o : Outcome). o .number) (g .answer) in
+    record {
+      ordered = refl;
+      first = subst (FirstDue (planRows h k least)) (sym number) (first-due (planRows h k least));
+      done = λ e. let z = sym number ∙ e in (g .answer ∙ ap numberAlone z, g .done z);
+      refused = λ n e due.
+          let zero = g .refused (λ z. due (sym e ∙ number ∙ z)) in
+          (g .answer ∙ ap numberAlone (sym number ∙ e), zero .0, zero .1);
+    }
+
 -- ---- heads and piecewise calls
 
 -- a result that is complete where a number is 0, and the number's refusal else
@@ -367,6 +382,7 @@ answers-or-first-refusal =
       openingRingParts = λ keyLength ring header input output scratch ad nonce.
           ring-parts keyLength ring header (aeadLens ad nonce) input output scratch (row 10 (eqb nonce 0) ∷ [])
           (ring-comes-from-c keyLength ring header input output scratch ad nonce);
+      planning = λ h k least outcome places blocks g. by-plan h k least g;
       makingHead = λ key bytes lens. by-head _ _ _ _ refl (header-work key bytes lens);
       extendingHead = λ h bytes lens. by-head _ _ _ _ (rest-ordered h lens (length bytes)) (rest-work h bytes lens);
       beginningSealer = λ key bytes lens. by-begin _ _ _ (headOf key (strings bytes lens)) 1 zeros refl (header-work key bytes lens);

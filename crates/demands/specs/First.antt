@@ -13,6 +13,7 @@ use Rattle.header.specs.Header.{total, strings}
 use Rattle.header.specs.Blocks.{sixteenths, blocksOfAll}
 use Rattle.answers.specs.declared.Answer.{Answer}
 use Rattle.answers.specs.Answer.{Outcome, success, numberAlone, forged, Row, row, outcomeOf}
+use Rattle.dearest.specs.Dearest.{planRows, Dearest, GivesDearest}
 use Rattle.siv.specs.Calls.{CallResult, scratchNeed, headerRows, openRows, sealTable, sealCall, openTable, openCall}
 use Rattle.siv.specs.Ring.{slotCount, slotKey, ringRows, RingResult, openRing}
 use Rattle.siv.specs.Siv.{sealed, opened, genuine}
@@ -25,9 +26,9 @@ use Rattle.stream.specs.Steps.{StepResult, doneStep, refusedStep, tagRows, begi
 use Rattle.kinphlor.specs.Interface.{aeadLens, packed, sealFromC, openFromC, packedRing, openRingFromC}
 use Rattle.demands.specs.Model.{chained}
 
--- document 01's order of refusals, with document 02's 11 straight after 1
+-- document 01's order of refusals, with document 02's 11 straight after 1; 12 is due where no other is
 abbrev pub order : List ℕ
-order = 9 ∷ 1 ∷ 11 ∷ 10 ∷ 2 ∷ 3 ∷ 5 ∷ 4 ∷ 6 ∷ 7 ∷ 8 ∷ []
+order = 9 ∷ 1 ∷ 11 ∷ 10 ∷ 2 ∷ 3 ∷ 5 ∷ 4 ∷ 6 ∷ 7 ∷ 8 ∷ 12 ∷ []
 
 -- whether rows keep an order
 abbrev pub keeps : List ℕ → List Row → Bool
@@ -120,6 +121,15 @@ module _ (keyLength : ℕ) (ring bytes lens input output scratch : List ℕ) whe
     pub refused : (n : ℕ) → result .call .outcome .number ≡ n → (n ≡ 0 → ⊥) → (n ≡ 8 → ⊥) → Leaves (result .call) (numberAlone n) output scratch
     pub slotless : (result .call .outcome .number ≡ 0 → ⊥) → result .slot ≡ 0
 
+-- ---- the dearest header list
+
+-- the call by its table: a refusal has list and blocks zero
+pub record FirstDearest (h k least : ℕ) (outcome : Outcome) (places : List ℕ) (blocks : ℕ) : Type 0 where
+  pub ordered : keeps order (planRows h k least) ≡ true
+  pub first : FirstDue (planRows h k least) (outcome .number)
+  pub done : outcome .number ≡ 0 → (outcome ≡ success 0 0) × Dearest h k least places blocks
+  pub refused : (n : ℕ) → outcome .number ≡ n → (n ≡ 0 → ⊥) → (outcome ≡ numberAlone n) × (places ≡ replicate 126 0) × (blocks ≡ 0)
+
 -- ---- the number that C gets
 
 -- its parts as the header reads them: the answer from bit 32 on, the slot in the four bits below, the length in the 28 below these
@@ -185,6 +195,8 @@ pub record First : Type 0 where
   pub openingRingParts : (keyLength : ℕ) (ring header input output scratch : List ℕ) (ad nonce : ℕ)
       → let r = openRingFromC keyLength ring header ad nonce input output scratch in
       Parts (packedRing (r .slot) (r .call .outcome)) (r .call .outcome .number) (r .slot) (r .call .outcome .count)
+  pub planning : (h k least : ℕ) (outcome : Outcome) (places : List ℕ) (blocks : ℕ) → GivesDearest h k least outcome places blocks
+      → FirstDearest h k least outcome places blocks
   pub makingHead : (key bytes lens : List ℕ)
       → FirstHead (headerRows (length key) lens (length bytes)) (makeHead key bytes lens) (2 + blocksOfAll lens) (headOf key (strings bytes lens))
   pub extendingHead : (h : Head) (bytes lens : List ℕ)

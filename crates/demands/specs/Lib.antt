@@ -8,3 +8,4 @@ pub mod Model
 pub mod Third
 pub mod Tail
 pub mod Work
+pub mod Dearest

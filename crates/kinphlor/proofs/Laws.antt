@@ -1,18 +1,21 @@
 -- Laws of the C interface's definitions.
 -- Assumes nothing.
-use mathlib.Core.Path.{_≡_, refl, ap, ap₂, sym, _∙_}
+use mathlib.Core.Path.{_≡_, refl, ap, ap₂, sym, subst, _∙_}
 use mathlib.Core.Bool.{true, false}
 use mathlib.Core.List.{List}
-use Prim.Native.Nat.{ℕ}
+use Prim.Native.Nat.{ℕ, _+_, _*_, _/_, _%_, _<_, _^_}
 use native.Mathlib.Nat.{add-zero}
+use native.Mathlib.Omega.{arith}
 use lib.ListN.{length}
-use Rattle.answers.specs.Answer.{Outcome, outcomeOf, numberAlone}
+use Rattle.answers.specs.Answer.{Outcome, outcomeOf, numberAlone, first}
 use Rattle.answers.proofs.Laws.{outcome-with}
+use Rattle.dearest.specs.Dearest.{planRows, GivesDearest}
+use Rattle.dearest.proofs.Laws.{number-small, blocks-small}
 use Rattle.siv.specs.declared.Report.{Report}
 use Rattle.siv.specs.declared.RingAnswer.{RingAnswer}
 use Rattle.siv.specs.Calls.{CallResult, DidCall}
 use Rattle.siv.specs.Ring.{DidRing, openRing}
-use Rattle.kinphlor.specs.Interface.{aeadLens, packed, emptyNonce, fromC, DidPacked, packedRing, emptyNonceRing, openRingFromC, DidPackedRing}
+use Rattle.kinphlor.specs.Interface.{aeadLens, packed, emptyNonce, fromC, DidPacked, packedRing, emptyNonceRing, openRingFromC, DidPackedRing, GivesDearestFromC}
 
 module _ (nonce : ℕ) (key output scratch : List ℕ) (call : CallResult) where
   pub nonce-refused : {r : ℕ} → emptyNonce (length key) nonce ≡ true → r ≡ packed (numberAlone 10) → DidPacked (fromC nonce key output scratch call) r output scratch
@@ -39,3 +42,20 @@ module _ (keyLength : ℕ) (ring header : List ℕ) (ad nonce : ℕ) (input outp
   unfolding openRingFromC
   ring-packed a e d p =
       record { answer = simp e (p ∙ ap₂ packedRing (d .slot) (outcome-with (a .answer) (a .work) 0 (d .call .outcome) refl)); output = simp e (d .call .output); scratch = simp e (d .call .scratch) }
+
+-- ---- the dearest header list
+
+module _ {h k least : ℕ} {outcome : Outcome} {places : List ℕ} {blocks n : ℕ} (g : GivesDearest h k least outcome places blocks) (e : n ≡ packed outcome) where
+  -- the number alone, and that number and blocks fit
+  dearest-number : n ≡ first (planRows h k least) * 4294967296
+  dearest-number = e ∙ ap (λ (o : Outcome). packed o) (g .answer) ∙ add-zero (first (planRows h k least) * 4294967296)
+
+  pub dearest-small : n + blocks < 2 ^ 64
+  dearest-small = omega (arith, dearest-number, number-small h k least, blocks-small h k least g)
+
+  pub dearest-packed : GivesDearestFromC h k least places (n + blocks)
+  dearest-packed =
+      let high : (n + blocks) / 4294967296 ≡ first (planRows h k least) = omega (arith, dearest-number, blocks-small h k least g) in
+      let low : blocks ≡ (n + blocks) % 4294967296 = omega (arith, dearest-number, blocks-small h k least g) in
+      subst (λ (b : ℕ). GivesDearest h k least (numberAlone ((n + blocks) / 4294967296)) places b) low
+      (record { answer = ap numberAlone high; done = g .done; refused = g .refused })

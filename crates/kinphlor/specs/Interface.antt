@@ -3,11 +3,12 @@
 use mathlib.Core.Path.{_≡_}
 use mathlib.Core.Bool.{Bool, cond, _&&_}
 use mathlib.Core.List.{List, [], _∷_}
-use Prim.Native.Nat.{ℕ, _+_, _*_}
+use Prim.Native.Nat.{ℕ, _+_, _*_, _/_, _%_}
 use lib.Dec.{eqb}
 use lib.ListN.{length}
 use denote.Ref.{now}
-use Rattle.answers.specs.Answer.{Outcome, first}
+use Rattle.answers.specs.Answer.{Outcome, numberAlone, first}
+use Rattle.dearest.specs.Dearest.{GivesDearest}
 use Rattle.siv.specs.Calls.{isKeyLength, CallResult, refusedCall, sealCall, openCall, Lent}
 use Rattle.siv.specs.Ring.{ringRows, RingResult, refusedRing, openRing}
 use Rattle.siv.specs.Work.{plannedWork}
@@ -84,3 +85,9 @@ PerformsRingFromC keyLength ring header ad nonce input output scratch given =
 -- the work that sealing and opening report for such lengths, which the number does not carry: 0 where the call is refused for them
 unfoldable pub plannedFromC : ℕ → ℕ → ℕ → ℕ
 plannedFromC ad nonce n = cond (eqb nonce 0) 0 (plannedWork (aeadLens ad nonce) n)
+
+-- ---- the dearest header list
+
+-- what the interface promises of it: the answer from bit 32 on, the blocks below, and the list in the lent places
+abbrev pub GivesDearestFromC : ℕ → ℕ → ℕ → List ℕ → ℕ → Type 0
+GivesDearestFromC h k least places given = GivesDearest h k least (numberAlone (given / 4294967296)) places (given % 4294967296)

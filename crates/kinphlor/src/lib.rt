@@ -4,7 +4,7 @@ ghost use Prim.Native.Nat.{_≤_};
 ghost use Rattle.answers.specs.Answer.{outcomeOf};
 ghost use Rattle.siv.specs.Calls.{limit};
 ghost use Rattle.kinphlor.specs.Interface.{packed, emptyNonce, sealFromC, openFromC, PerformsFromC};
-ghost use Rattle.kinphlor.specs.Interface.{packedRing, emptyNonceRing, PerformsRingFromC, plannedFromC};
+ghost use Rattle.kinphlor.specs.Interface.{packedRing, emptyNonceRing, PerformsRingFromC, plannedFromC, GivesDearestFromC};
 use answers::Answer;
 use answers::Refusal;
 use siv::RingAnswer;
@@ -123,4 +123,21 @@ pub extern "C" fn kinphlor_planned_work(ad_len: u32, nonce_len: u32, n: usize) -
     }
     let lens = [ad_len, nonce_len];
     siv::planned_work(&lens, n) as u64
+}
+
+// The dearest header list: of all lists of count lengths that sum to header_len, none under the least, one whose strings have the most blocks.
+#[no_mangle]
+pub extern "C" fn kinphlor_dearest_header(
+    header_len: usize,
+    count: usize,
+    least: usize,
+    lens: &mut [u32; 126],
+) -> u64
+    ensures { λ r. ⌜ GivesDearestFromC «header_len» count least (now (lens .exit)) r ⌝ }
+{
+    let given = dearest::header_list(header_len, count, least);
+    let places = given.lens;
+    *lens = places;
+    let answer = given.answer;
+    pack(answer) + given.blocks as u64
 }
