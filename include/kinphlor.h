@@ -6,9 +6,10 @@
  *
  * kinphlor_seal and kinphlor_open work under one key. kinphlor_open_ring is for the time in which keys change: it tries
  * the keys of a ring from slot 0 on and stops at the first that opens the record. With a ring of one key it does what
- * kinphlor_open does. kinphlor_planned_work, below, tells beforehand how many blocks a record takes.
+ * kinphlor_open does. Two functions below are for planning, from lengths alone: kinphlor_planned_work tells how many
+ * blocks a record takes, kinphlor_dearest_header how many its header strings can take at the most.
  *
- * The other three take the same arguments but for the keys. n is the plaintext's length.
+ * The first three take the same arguments but for the keys. n is the plaintext's length.
  *
  *   key, key_len        seal, open: 32, 48 or 64 bytes. The first half serves the tag, the second half the key stream.
  *   key_len,            open_ring: the length of one key, 32, 48 or 64; and the ring, one to four keys of that length,
@@ -66,6 +67,10 @@ extern "C" {
 /* The most keys in a ring. */
 #define KINPHLOR_RING_MAX 4
 
+/* The most header strings, and the most header bytes, that kinphlor_dearest_header plans for. */
+#define KINPHLOR_STRINGS_MAX 126
+#define KINPHLOR_HEADER_MAX 1048576
+
 /* The answers. */
 enum kinphlor_answer {
     KINPHLOR_OK = 0,
@@ -79,7 +84,8 @@ enum kinphlor_answer {
     KINPHLOR_FORGED = 8,         /* not sealed under this header and key (or a key of the ring): damaged or forged */
     KINPHLOR_STATE = 9,          /* a stream state or a head that is not one for the call; never from these functions */
     KINPHLOR_EMPTY_NONCE = 10,   /* nonce_len is 0 */
-    KINPHLOR_RING_LENGTH = 11    /* ring_len is not one to four times key_len; from kinphlor_open_ring alone */
+    KINPHLOR_RING_LENGTH = 11,   /* ring_len is not one to four times key_len; from kinphlor_open_ring alone */
+    KINPHLOR_HEADER_PLAN = 12    /* no header list has such figures; from kinphlor_dearest_header alone */
 };
 
 uint64_t kinphlor_seal(const uint8_t *key, size_t key_len, const uint8_t *header, size_t header_len,
@@ -106,6 +112,23 @@ uint64_t kinphlor_open_ring(size_t key_len, const uint8_t *ring, size_t ring_len
  */
 uint64_t kinphlor_planned_work(uint32_t ad_len, uint32_t nonce_len, size_t n);
 
+/*
+ * The dearest header, for a gym that has not picked its header strings yet. Of all lists of count lengths that sum to
+ * header_len, none of them under least, it writes one whose strings have the most blocks, and gives these blocks
+ * (kinphlor_blocks). No other such list has more. Several may have as many, and which of them is written may change.
+ *
+ *   header_len  how many bytes the strings have together: at most 1,048,576, and not under count times least
+ *   count       how many strings there are: 1 to 126
+ *   least       the least length of each: 0, or 1 where no string may be empty
+ *   lens        126 places. The list's lengths come first; those past count become 0.
+ *
+ * With other figures the answer is 12 (kinphlor_number), and all places and the blocks are 0; there is no other refusal.
+ * A record of n bytes takes 2 blocks, those of its header, those of its plaintext and n divided by 16, rounded up. From C
+ * a header has two strings, associated data and nonce; a wall unit's own may have up to 126. lens must be valid for 126
+ * numbers and not null.
+ */
+uint64_t kinphlor_dearest_header(size_t header_len, size_t count, size_t least, uint32_t lens[KINPHLOR_STRINGS_MAX]);
+
 /* The answer in a result: one of enum kinphlor_answer. */
 static inline uint32_t kinphlor_number(uint64_t result) { return (uint32_t)(result >> 32); }
 
@@ -114,6 +137,9 @@ static inline uint32_t kinphlor_slot(uint64_t result) { return (uint32_t)(result
 
 /* The length in a result: how many bytes of the output were written. */
 static inline uint32_t kinphlor_length(uint64_t result) { return (uint32_t)(result & 0x0fffffffu); }
+
+/* The blocks in a result of kinphlor_dearest_header. */
+static inline uint32_t kinphlor_blocks(uint64_t result) { return (uint32_t)(result & 0xffffffffu); }
 
 /* The scratch that a plaintext of n bytes needs. */
 static inline size_t kinphlor_scratch_len(size_t n) { return n < KINPHLOR_SCRATCH_MIN ? KINPHLOR_SCRATCH_MIN : n; }
@@ -133,6 +159,7 @@ static inline const char *kinphlor_text(uint32_t number) {
     case KINPHLOR_STATE: return "the stream state or the head is not one for this call";
     case KINPHLOR_EMPTY_NONCE: return "the nonce is empty";
     case KINPHLOR_RING_LENGTH: return "the ring is not one to four whole keys";
+    case KINPHLOR_HEADER_PLAN: return "no header list has such figures";
     default: return "unknown answer";
     }
 }

@@ -5,11 +5,12 @@
 #include <ucontext.h>
 
 enum { ROOM = 1 << 18, LIMIT = 8192, PAINT = 0xa5, SIZES = 3 };
-enum { NONE, SEAL, OPEN, OPEN_RING };
+enum { NONE, SEAL, OPEN, OPEN_RING, DEAREST };
 
 static unsigned char room[ROOM];
 static ucontext_t here, there;
 static uint8_t key[64], ring[KINPHLOR_RING_MAX * 64], header[28], record[1 << 16], sealed[(1 << 16) + 16], scratch[1 << 16];
+static uint32_t lens[KINPHLOR_STRINGS_MAX];
 static size_t key_len, record_len;
 static int function;
 static uint64_t answer;
@@ -26,6 +27,9 @@ static void call(void)
     case OPEN_RING:
         answer = kinphlor_open_ring(key_len, ring, KINPHLOR_RING_MAX * key_len, header, 28, 16, 12, sealed, record_len + 16, record,
                                     record_len, scratch, sizeof scratch);
+        break;
+    case DEAREST:
+        answer = kinphlor_dearest_header(KINPHLOR_HEADER_MAX, KINPHLOR_STRINGS_MAX, 1, lens);
         break;
     }
 }
@@ -61,7 +65,7 @@ int main(void)
         memset(ring, 1, (KINPHLOR_RING_MAX - 1) * key_len);
         for (int i = 0; i < SIZES; i++) {
             record_len = lengths[i];
-            for (function = SEAL; function <= OPEN_RING; function++) {
+            for (function = SEAL; function <= DEAREST; function++) {
                 size_t n = taken() - idle;
 
                 if (kinphlor_number(answer) != KINPHLOR_OK) {

@@ -1,4 +1,4 @@
-/* kinphlor.h called from C and C++: sealing, opening, rings, damaged records, NULL for empty buffers, planned work, texts. */
+/* kinphlor.h called from C and C++: sealing, opening, rings, damaged records, NULL for empty buffers, planned work, dearest headers, texts. */
 #include "kinphlor.h"
 
 #include <stdio.h>
@@ -217,17 +217,75 @@ static void planned(void) {
     }
 }
 
+/* The dearest list of figures at the edges, its blocks worked out by hand; 0 blocks where the figures are refused. */
+static void dearest(void) {
+    static const struct {
+        size_t header_len, count, least;
+        uint32_t blocks;
+    } rows[] = {
+        {17, 126, 0, 2 + 125}, /* the two checks of slip 6 of document 02 */
+        {142, 126, 1, 2 + 125},
+        {0, 1, 0, 1},
+        {0, 126, 0, 126},
+        {16, 126, 0, 126},
+        {1, 1, 1, 1},
+        {126, 126, 1, 126},
+        {141, 126, 1, 126},
+        {33, 2, 0, 3 + 1},
+        {34, 2, 1, 3 + 1},
+        {KINPHLOR_HEADER_MAX, 1, 0, 65536},
+        {KINPHLOR_HEADER_MAX, 126, 0, 65536 + 125},
+        {KINPHLOR_HEADER_MAX, 126, 1, 65529 + 125}, /* 1,048,576 - 125 bytes in one string */
+        {0, 0, 0, 0},
+        {40, 0, 0, 0},
+        {40, 127, 0, 0},
+        {40, SIZE_MAX, 0, 0},
+        {40, 2, 2, 0},
+        {40, 2, SIZE_MAX, 0},
+        {0, SIZE_MAX / 2 + 1, 2, 0}, /* a product that wraps to 0 */
+        {125, 126, 1, 0},
+        {0, 1, 1, 0},
+        {KINPHLOR_HEADER_MAX + 1, 126, 0, 0},
+        {SIZE_MAX, 1, 1, 0},
+    };
+    uint32_t lens[KINPHLOR_STRINGS_MAX + LATER];
+    size_t i, j;
+
+    for (i = 0; i < sizeof rows / sizeof rows[0]; i++) {
+        const int ok = rows[i].blocks > 0;
+        uint64_t result, sum = 0, blocks = 0;
+
+        memset(lens, FILL, sizeof lens);
+        result = kinphlor_dearest_header(rows[i].header_len, rows[i].count, rows[i].least, lens);
+        CHECK("the answer", kinphlor_number(result) == (ok ? KINPHLOR_OK : KINPHLOR_HEADER_PLAN));
+        CHECK("the most blocks", kinphlor_blocks(result) == rows[i].blocks);
+        for (j = 0; j < KINPHLOR_STRINGS_MAX; j++) {
+            if (ok && j < rows[i].count) {
+                CHECK("no length under the least", lens[j] >= rows[i].least);
+                sum += lens[j];
+                blocks += lens[j] == 0 ? 1 : (lens[j] + 15) / 16;
+            } else {
+                CHECK("zeros past the count, and after a refusal", lens[j] == 0);
+            }
+        }
+        CHECK("the list's sum", !ok || sum == rows[i].header_len);
+        CHECK("the list's blocks", blocks == rows[i].blocks);
+        CHECK("later memory is left", all((const uint8_t *)(lens + KINPHLOR_STRINGS_MAX), LATER * sizeof lens[0], FILL));
+    }
+}
+
 /* The numbers are those of the table, and each has a text of its own. */
 static void texts(void) {
     static const uint32_t numbers[] = {KINPHLOR_OK,             KINPHLOR_KEY_LENGTH,    KINPHLOR_HEADER_COUNT,
                                        KINPHLOR_HEADER_LENGTHS, KINPHLOR_TOO_LONG,      KINPHLOR_SEALED_LENGTH,
                                        KINPHLOR_OUTPUT_SHORT,   KINPHLOR_SCRATCH_SHORT, KINPHLOR_FORGED,
-                                       KINPHLOR_STATE,          KINPHLOR_EMPTY_NONCE,   KINPHLOR_RING_LENGTH};
+                                       KINPHLOR_STATE,          KINPHLOR_EMPTY_NONCE,   KINPHLOR_RING_LENGTH,
+                                       KINPHLOR_HEADER_PLAN};
     const uint32_t count = sizeof numbers / sizeof numbers[0];
     uint32_t i, j;
 
     for (i = 0; i < count; i++) {
-        CHECK("numbers 0 to 11 in order", numbers[i] == i);
+        CHECK("numbers 0 to 12 in order", numbers[i] == i);
         CHECK("a text", kinphlor_text(i) != NULL && kinphlor_text(i)[0] != 0);
         for (j = i + 1; j <= count; j++) {
             CHECK("no text twice", strcmp(kinphlor_text(i), kinphlor_text(j)) != 0);
@@ -237,6 +295,7 @@ static void texts(void) {
     CHECK("a slot apart from the rest", kinphlor_slot(((uint64_t)8 << 32) + 0x3fffffffu) == 3);
     CHECK("a length apart from the rest", kinphlor_length(((uint64_t)8 << 32) + 0xf0123456u) == 0x123456u);
     CHECK("the longest length", kinphlor_length(KINPHLOR_LIMIT + KINPHLOR_TAG_LEN) == 1048592u);
+    CHECK("blocks apart from the rest", kinphlor_blocks(((uint64_t)12 << 32) + 0xf0123456u) == 0xf0123456u);
     CHECK("the largest slot", kinphlor_slot((uint64_t)(KINPHLOR_RING_MAX - 1) << 28) == 3);
     CHECK("scratch", kinphlor_scratch_len(0) == 16 && kinphlor_scratch_len(16) == 16 && kinphlor_scratch_len(17) == 17);
 }
@@ -258,6 +317,7 @@ int main(void) {
     nulls();
     ring_nulls();
     planned();
+    dearest();
     texts();
     printf("c: %u checks passed\n", checks);
     return 0;

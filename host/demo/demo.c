@@ -87,6 +87,16 @@ static uint64_t open_changing(const uint8_t ring[KEYS * KEY_LEN], struct lane la
  */
 static uint64_t record_work(void) { return kinphlor_planned_work(AD_LEN, NONCE_LEN, RECORD_LEN); }
 
+/*
+ * How many blocks the header can take at the most, for a gym that knows only how many strings and bytes it will have and
+ * that no string is empty; 0 where no header has such figures.
+ */
+static uint32_t worst_header(size_t strings, size_t bytes) {
+    uint32_t lens[KINPHLOR_STRINGS_MAX];
+
+    return kinphlor_blocks(kinphlor_dearest_header(bytes, strings, 1, lens));
+}
+
 /* Whether a result has this answer and this length. */
 static int is(uint64_t result, uint32_t number, uint32_t length) {
     return kinphlor_number(result) == number && kinphlor_length(result) == length;
@@ -303,6 +313,26 @@ static void show_changing(const uint8_t ring[KEYS * KEY_LEN], const uint8_t key[
     show_colour(result);
 }
 
+/* The dearest headers of a few strings and bytes, with the blocks that they must have. */
+static void show_headers(void) {
+    static const struct {
+        size_t strings, bytes;
+        uint32_t blocks;
+    } rows[] = {{2, 16, 2}, {2, 32, 3}, {4, 64, 7}, {4, 256, 19}, {126, 142, 127}, {126, 1024, 182}};
+    size_t i;
+
+    puts("Another gym has not picked its header strings. Whatever it picks, none empty, they take at most:\n");
+    puts("  strings  bytes together  blocks");
+    for (i = 0; i < sizeof rows / sizeof rows[0]; i++) {
+        const uint32_t blocks = worst_header(rows[i].strings, rows[i].bytes);
+
+        must("a block for each string, and one for every 16 bytes beyond a byte for each", blocks == rows[i].blocks);
+        printf("  %7zu  %14zu  %6" PRIu32 "\n", rows[i].strings, rows[i].bytes, blocks);
+    }
+    must("three strings in two bytes are refused", worst_header(3, 2) == 0);
+    puts("");
+}
+
 /* The first record number whose tag ends in these two bytes, or 0. One number in 65,536 has such a tag. */
 static uint64_t search(const uint8_t key[KEY_LEN], uint8_t last_but_one, uint8_t last) {
     uint8_t record[RECORD_LEN], sealed[SEALED_LEN];
@@ -340,6 +370,7 @@ int main(void) {
         show_changing(ring, ring + NEW * KEY_LEN, NEW, carry + 2, "sealed after the change");
         show_changing(ring, ring + OLD * KEY_LEN, OLD, carry + 1, "sealed before the change, and late");
         show_changing(ring, strange, KEYS, carry + 3, "sealed under neither key");
+        show_headers();
     }
     wipe(ring, sizeof ring);
     wipe(strange, sizeof strange);

@@ -1,5 +1,5 @@
-//! The work of calls at every short length: whole calls under keys and rings, heads and what begins from them; and what is
-//! planned. Each call's work is held against the sum of slip 5 where the call is made (whole::run, heads::made,
+//! The work of calls at every short length: whole calls under keys and rings, heads and what begins from them; what is
+//! planned; and the dearest headers, sealed behind. Each call's work is held against the sum of slip 5 where the call is made (whole::run, heads::made,
 //! heads::record), and that sum here against a count of what goes through the cipher of a plain AES-SIV.
 
 use crate::aes::counted;
@@ -8,8 +8,8 @@ use crate::probe::Base;
 use crate::reference::Reference;
 use crate::Pieces;
 use shared::check;
-use shared::context::Context;
-use shared::library::{self, Function, KEY_LENS, LIMIT, RING_MAX};
+use shared::context::{Context, Peers};
+use shared::library::{self, Function, KEY_LENS, LIMIT, RING_MAX, STRINGS_MAX};
 use shared::probe::{planned_work, whole};
 use shared::random::Random;
 use shared::whole::{self, Given, Room, Want};
@@ -38,6 +38,7 @@ pub fn run(Pieces { peers, random, .. }: &mut Pieces) {
         }
     }
     plans();
+    dearest(peers, random);
 }
 
 /// The plain AES-SIV gives what is wanted, and so many blocks go through its cipher.
@@ -129,5 +130,28 @@ fn plans() {
             let planned = library::planned_work(ad_len, nonce_len, n);
             check::holds(|| format!("planned for C, {lens:?} and {n} bytes: {planned}, not {want}"), planned == want);
         }
+    }
+}
+
+/// Records behind the dearest header lists: the blocks that are given are what the calls take for the header.
+fn dearest(peers: &Peers, random: &mut Random) {
+    for (header_len, count, least) in [
+        (17, 126, 0), (142, 126, 1), (0, 1, 0), (0, 126, 0), (1, 1, 1), (126, 126, 1), (33, 2, 0), (34, 2, 1), (100, 5, 1),
+        (60, 4, 0), (1000, 126, 0), (1000, 126, 1), (70000, 3, 0),
+    ] {
+        let mut places = [0; STRINGS_MAX];
+        let (number, blocks) = library::dearest_header(header_len, count, least, &mut places);
+        let key_len = random.pick(&KEY_LENS);
+        let context = Context::random(random, key_len, places[..count].to_vec());
+        let plain = random.bytes(40);
+        check::holds(|| format!("dearest header of {header_len} bytes and {count} strings: {number}"), number == 0);
+        check::holds(
+            || name(&context, plain.len(), &format!("{blocks} blocks for the header")),
+            work::whole(&context.lens, plain.len()) == work::KEY + blocks + work::plain(plain.len()),
+        );
+        let sealed = peers.seal(&context, &plain);
+        let mut damaged = sealed.clone();
+        random.flip(&mut damaged);
+        whole_calls(&context, &plain, &sealed, &damaged);
     }
 }

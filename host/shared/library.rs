@@ -14,6 +14,7 @@ unsafe extern "C" {
         nonce_len: u32, input: *const u8, input_len: usize, output: *mut u8, output_len: usize, scratch: *mut u8,
         scratch_len: usize) -> u64;
     fn kinphlor_planned_work(ad_len: u32, nonce_len: u32, n: usize) -> u64;
+    fn kinphlor_dearest_header(header_len: usize, count: usize, least: usize, lens: *mut u32) -> u64;
 }
 
 /// The longest plaintext.
@@ -22,6 +23,9 @@ pub const TAG_LEN: usize = 16;
 pub const KEY_LENS: [usize; 3] = [32, 48, 64];
 /// The most keys in a ring.
 pub const RING_MAX: usize = 4;
+/// The most header strings, and the most header bytes that are planned for.
+pub const STRINGS_MAX: usize = 126;
+pub const HEADER_MAX: usize = 1_048_576;
 
 #[derive(Clone, Copy, PartialEq, Debug)]
 pub enum Function {
@@ -94,6 +98,12 @@ fn open_ring(key_len: usize, args: &Args, output: &mut [u8], scratch: &mut [u8])
 
 pub fn planned_work(ad_len: u32, nonce_len: u32, n: usize) -> u64 {
     unsafe { kinphlor_planned_work(ad_len, nonce_len, n) }
+}
+
+/// A number, and the blocks of the list that was written.
+pub fn dearest_header(header_len: usize, count: usize, least: usize, lens: &mut [u32; STRINGS_MAX]) -> (u64, u64) {
+    let result = unsafe { kinphlor_dearest_header(header_len, count, least, lens.as_mut_ptr()) };
+    (result >> 32, result & 0xffff_ffff)
 }
 
 fn answer(result: u64) -> Answer {

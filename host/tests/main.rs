@@ -1,6 +1,7 @@
 //! libkinphlor.a against OpenSSL's libcrypto and libgcrypt. Its last line is `host: N checks passed`.
 
 mod cases;
+mod dearest;
 
 use cases::Cases;
 use shared::context::Peers;
@@ -20,5 +21,8 @@ fn main() {
         ("ring buffers of every length", Cases::ring_buffers),
         ("tags searched by their end", Cases::searched_tags),
         ("tags chosen by where the counter carries", Cases::chosen_tags),
+        ("the dearest header beside every list of few bytes", dearest::every_list),
+        ("the dearest header beside a greedy list", dearest::greedy_lists),
+        ("figures that no header list has", dearest::refused),
     ]);
 }

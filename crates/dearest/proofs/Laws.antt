@@ -16,7 +16,7 @@ use Rattle.header.specs.Header.{total}
 use Rattle.header.specs.Blocks.{blocksOf, blocksOfAll}
 use Rattle.answers.specs.Answer.{Outcome, numberAlone, first}
 use Rattle.answers.proofs.Laws.{not-due}
-use Rattle.dearest.specs.Dearest.{mostBytes, isPlan, planRows, Planned, AllAtLeast, Divides, Dearest, GivesDearest}
+use Rattle.dearest.specs.Dearest.{mostBytes, isPlan, planRows, Planned, AllAtLeast, Composes, Dearest, GivesDearest}
 
 -- ---- which figures are planned for
 
@@ -94,7 +94,7 @@ within least small (n ∷ lens) each =
     let more : suc (length lens) * least ≡ length lens * least + least = suc-mul (length lens) least in
     record { sum = omega (arith, rest, each .0, more); blocks = omega (arith, rest, each .0, more) }
 
-pub at-most : (h k least : ℕ) (lens : List ℕ) → least ≤ 1 → Divides h k least lens → blocksOfAll lens ≤ peak h k least
+pub at-most : (h k least : ℕ) (lens : List ℕ) → least ≤ 1 → Composes h k least lens → blocksOfAll lens ≤ peak h k least
 at-most h k least lens small d =
     let all : Within least lens = within least small lens (d .each) in
     let product : length lens * least ≡ k * least = ap (λ (m : ℕ). m * least) (d .count) in
@@ -102,13 +102,13 @@ at-most h k least lens small d =
 
 -- a list that has as many is dearest
 module _ (h k least : ℕ) (lens : List ℕ) {places : List ℕ} {blocks : ℕ} where
-  pub dearest-by : least ≤ 1 → Divides h k least lens → peak h k least ≤ blocksOfAll lens → places ≡ lens ++ replicate (126 - k) 0 → blocks ≡ blocksOfAll (take k places)
+  pub dearest-by : least ≤ 1 → Composes h k least lens → peak h k least ≤ blocksOfAll lens → places ≡ lens ++ replicate (126 - k) 0 → blocks ≡ blocksOfAll (take k places)
       → Dearest h k least places blocks
   dearest-by small d reached laid counted =
       let zeros : List ℕ = replicate (126 - k) 0 in
       let front : take k places ≡ lens = ap₂ take (sym (d .count)) laid ∙ take-append-seam lens zeros in
       record {
-        divides = subst (Divides h k least) (sym front) d;
+        composes = subst (Composes h k least) (sym front) d;
         past = ap₂ drop (sym (d .count)) laid ∙ drop-append-seam lens zeros;
         counted = counted;
         most = λ other o. omega (arith, at-most h k least other small o, reached, counted, ap blocksOfAll front);
@@ -135,9 +135,9 @@ alike (suc n) len =
       each = λ least h. (h, rest .each least h);
     }
 
-pub divides-by : (h k least first others : ℕ) → 1 ≤ k → first + (k - 1) * others ≡ h → least ≤ first → least ≤ others → Divides h k least (first ∷ replicate (k - 1) others)
+pub composes-by : (h k least first others : ℕ) → 1 ≤ k → first + (k - 1) * others ≡ h → least ≤ first → least ≤ others → Composes h k least (first ∷ replicate (k - 1) others)
 unfolding total
-divides-by h k least first others some sum l m =
+composes-by h k least first others some sum l m =
     let rest = alike (k - 1) others in
     record { count = omega (arith, rest .count); sum = ap (λ (n : ℕ). first + n) (rest .sum) ∙ sum; each = (l, rest .each least m) }
 
@@ -153,7 +153,7 @@ module _ (h k least first others : ℕ) {places : List ℕ} {blocks : ℕ} where
   list-gives e laid counted sum l m reached =
       let p = planned h k least e in
       gives h k least e
-      (dearest-by h k least (first ∷ replicate (k - 1) others) (p .small) (divides-by h k least first others (p .some) sum l m)
+      (dearest-by h k least (first ∷ replicate (k - 1) others) (p .small) (composes-by h k least first others (p .some) sum l m)
       (omega (arith, blocks-by k first others, reached)) laid (rw sub-zero at counted))
 
 -- where the others have the least, it has as many blocks as any
@@ -167,8 +167,8 @@ pub blocks-peak : (h k least : ℕ) {places : List ℕ} {blocks : ℕ} → Plann
 blocks-peak h k least {places = places} p d =
     let less = times-less k least (p .some) in
     let first = h - (k - 1) * least in
-    let other : Divides h k least (first ∷ replicate (k - 1) least) = divides-by h k least first least (p .some) (omega (arith, p .enough, less)) (omega (arith, p .enough, less)) (omega arith) in
-    omega (arith, d .counted, at-most h k least (take k places) (p .small) (d .divides), d .most (first ∷ replicate (k - 1) least) other, blocks-by k first least, reaches h k least p)
+    let other : Composes h k least (first ∷ replicate (k - 1) least) = composes-by h k least first least (p .some) (omega (arith, p .enough, less)) (omega (arith, p .enough, less)) (omega arith) in
+    omega (arith, d .counted, at-most h k least (take k places) (p .small) (d .composes), d .most (first ∷ replicate (k - 1) least) other, blocks-by k first least, reaches h k least p)
 
 -- ---- its places
 

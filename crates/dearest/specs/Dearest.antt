@@ -35,18 +35,18 @@ abbrev pub AllAtLeast : ℕ → List ℕ → Type 0
 AllAtLeast least [] = Unit
 AllAtLeast least (n ∷ lens) = (least ≤ n) × AllAtLeast least lens
 
--- k lengths that sum to h, each at least the least
-pub record Divides (h k least : ℕ) (lens : List ℕ) : Type 0 where
+-- k lengths that sum to h, each at least the least: a composition of h
+pub record Composes (h k least : ℕ) (lens : List ℕ) : Type 0 where
   pub count : length lens ≡ k
   pub sum : total lens ≡ h
   pub each : AllAtLeast least lens
 
 -- 126 places whose first k are such a list, those past k zero, and its blocks; every other such list has at most as many
 pub record Dearest (h k least : ℕ) (places : List ℕ) (blocks : ℕ) : Type 0 where
-  pub divides : Divides h k least (take k places)
+  pub composes : Composes h k least (take k places)
   pub past : drop k places ≡ replicate (126 - k) 0
   pub counted : blocks ≡ blocksOfAll (take k places)
-  pub most : (other : List ℕ) → Divides h k least other → blocksOfAll other ≤ blocks
+  pub most : (other : List ℕ) → Composes h k least other → blocksOfAll other ≤ blocks
 
 -- what the call promises: that, or 12 with list and blocks zero. Which of several equally dear lists is given stays open
 pub record GivesDearest (h k least : ℕ) (outcome : Outcome) (places : List ℕ) (blocks : ℕ) : Type 0 where

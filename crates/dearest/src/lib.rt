@@ -64,7 +64,8 @@ fn list_of(first: u32, count: usize, others: u32) -> [u32; 126]
     lens
 }
 
-// Of all lists of count lengths that sum to header_len, none under the least, one with the most blocks: one string takes all that the others can leave.
+// Of all lists of count lengths that sum to header_len, none under the least, one with the most blocks.
+// Every string has a block. A further one takes 16 bytes in a string that has a byte, and 17 in an empty one, so one string takes all that the others can leave.
 pub fn header_list(header_len: usize, count: usize, least: usize) -> HeaderList
     ensures { λ r. ⌜ GivesDearest «header_len» count least (outcomeOf (r .answer) 0) (r .lens) (r .blocks) ⌝ }
 {

@@ -10,10 +10,10 @@ use lib.ListN.{length, take}
 use borrow.Author.Tests.{eq-eqb, le-ltb}
 use Rattle.header.specs.Header.{total}
 use Rattle.header.specs.Blocks.{blocksOfAll}
-use Rattle.answers.specs.Answer.{Outcome, success, numberAlone, first}
+use Rattle.answers.specs.Answer.{Outcome, success, first}
 use Rattle.answers.proofs.Laws.{first-pass}
-use Rattle.dearest.specs.Dearest.{isPlan, Planned, planRows, Divides, Dearest, GivesDearest}
-use Rattle.dearest.proofs.Laws.{plan-by, no-plan, planned-row, peak, blocks-peak}
+use Rattle.dearest.specs.Dearest.{isPlan, Planned, planRows, Dearest, GivesDearest}
+use Rattle.dearest.proofs.Laws.{plan-by, no-plan, planned-row, blocks-peak}
 use Rattle.siv.specs.Calls.{isKeyLength, headerRows, sealRows, sealNumber, sealCall, openCall}
 use Rattle.siv.specs.Work.{blockWork}
 use Rattle.demands.specs.Dearest.{workBehind, Real, DearestHeader}
@@ -28,8 +28,8 @@ module _ (h k least : ℕ) (places : List ℕ) (blocks : ℕ) (p : Planned h k l
   -- the list that was given passes the refusals of a header list
   listed : (key bytes : List ℕ) → isKeyLength (length key) ≡ true → length bytes ≡ h → first (headerRows (length key) (take k places) (length bytes)) ≡ 0
   listed key bytes keyed long =
-      let few : length (take k places) ≤ 126 = omega (arith, d .divides .count, p .few) in
-      simp (keyed, le-ltb 126 (length (take k places)) few, eq-eqb (total (take k places)) (length bytes) (d .divides .sum ∙ sym long))
+      let few : length (take k places) ≤ 126 = omega (arith, d .composes .count, p .few) in
+      simp (keyed, le-ltb 126 (length (take k places)) few, eq-eqb (total (take k places)) (length bytes) (d .composes .sum ∙ sym long))
 
   seals : (key bytes input output scratch : List ℕ) → isKeyLength (length key) ≡ true → length bytes ≡ h → first (sealRows (length input) (length output) (length scratch)) ≡ 0
       → sealCall key bytes (take k places) input output scratch .outcome ≡ success (length input + 16) (workBehind blocks (length input))
@@ -37,7 +37,7 @@ module _ (h k least : ℕ) (places : List ℕ) (blocks : ℕ) (p : Planned h k l
   seals key bytes input output scratch keyed long room =
       let none = first-pass (headerRows (length key) (take k places) (length bytes)) (sealRows (length input) (length output) (length scratch)) refl (listed key bytes keyed long) ∙ room in
       answers-or-first-refusal .sealing key bytes (take k places) input output scratch .done none .0
-      ∙ ap (λ (b : ℕ). success (length input + 16) (workBehind b (length input))) (sym (d .counted))
+      ∙ ap (success (length input + 16)) (omega (arith, d .counted))
 
   module _ (key bytes lens input output scratch : List ℕ) where
     -- a call that was not refused before its key was tried reports the sum of its lengths, and any other 0

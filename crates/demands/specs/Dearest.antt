@@ -7,7 +7,7 @@ use Prim.Native.Nat.{ℕ, _+_, _-_, _≤_}
 use lib.ListN.{length, take}
 use Rattle.header.specs.Blocks.{sixteenths, blocksOf}
 use Rattle.answers.specs.Answer.{Outcome, success, first}
-use Rattle.dearest.specs.Dearest.{Planned, planRows, Divides, GivesDearest}
+use Rattle.dearest.specs.Dearest.{Planned, planRows, Composes, GivesDearest}
 use Rattle.siv.specs.Calls.{isKeyLength, sealRows, sealCall, openCall}
 use Rattle.demands.specs.Work.{Reported}
 
@@ -24,9 +24,9 @@ pub record Real (h k least : ℕ) (places : List ℕ) (blocks : ℕ) : Type 0 wh
   -- opening reports as many, for 8 as for success
   pub opens : (key bytes input output scratch : List ℕ) → Reported (openCall key bytes (take k places) input output scratch) (workBehind blocks (length input - 16))
   -- with any other such list no call reports more
-  pub sealsNoDearer : (other : List ℕ) → Divides h k least other → (key bytes input output scratch : List ℕ)
+  pub sealsNoDearer : (other : List ℕ) → Composes h k least other → (key bytes input output scratch : List ℕ)
       → sealCall key bytes other input output scratch .outcome .work ≤ workBehind blocks (length input)
-  pub opensNoDearer : (other : List ℕ) → Divides h k least other → (key bytes input output scratch : List ℕ)
+  pub opensNoDearer : (other : List ℕ) → Composes h k least other → (key bytes input output scratch : List ℕ)
       → openCall key bytes other input output scratch .outcome .work ≤ workBehind blocks (length input - 16)
 
 -- What a gym may rely on: for all figures, and whatever answer the promise allows.

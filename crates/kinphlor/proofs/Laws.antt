@@ -3,7 +3,7 @@
 use mathlib.Core.Path.{_≡_, refl, ap, ap₂, sym, subst, _∙_}
 use mathlib.Core.Bool.{true, false}
 use mathlib.Core.List.{List}
-use Prim.Native.Nat.{ℕ, _+_, _*_, _/_, _%_, _<_, _^_}
+use Prim.Native.Nat.{ℕ, _+_, _*_, _<_, _^_}
 use native.Mathlib.Nat.{add-zero}
 use native.Mathlib.Omega.{arith}
 use lib.ListN.{length}
@@ -15,7 +15,7 @@ use Rattle.siv.specs.declared.Report.{Report}
 use Rattle.siv.specs.declared.RingAnswer.{RingAnswer}
 use Rattle.siv.specs.Calls.{CallResult, DidCall}
 use Rattle.siv.specs.Ring.{DidRing, openRing}
-use Rattle.kinphlor.specs.Interface.{aeadLens, packed, emptyNonce, fromC, DidPacked, packedRing, emptyNonceRing, openRingFromC, DidPackedRing, GivesDearestFromC}
+use Rattle.kinphlor.specs.Interface.{aeadLens, packed, emptyNonce, fromC, DidPacked, packedRing, emptyNonceRing, openRingFromC, DidPackedRing, numberIn, blocksIn, GivesDearestFromC}
 
 module _ (nonce : ℕ) (key output scratch : List ℕ) (call : CallResult) where
   pub nonce-refused : {r : ℕ} → emptyNonce (length key) nonce ≡ true → r ≡ packed (numberAlone 10) → DidPacked (fromC nonce key output scratch call) r output scratch
@@ -55,7 +55,7 @@ module _ {h k least : ℕ} {outcome : Outcome} {places : List ℕ} {blocks n : �
 
   pub dearest-packed : GivesDearestFromC h k least places (n + blocks)
   dearest-packed =
-      let high : (n + blocks) / 4294967296 ≡ first (planRows h k least) = omega (arith, dearest-number, blocks-small h k least g) in
-      let low : blocks ≡ (n + blocks) % 4294967296 = omega (arith, dearest-number, blocks-small h k least g) in
-      subst (λ (b : ℕ). GivesDearest h k least (numberAlone ((n + blocks) / 4294967296)) places b) low
+      let high : numberIn (n + blocks) ≡ first (planRows h k least) = omega (arith, dearest-number, blocks-small h k least g) in
+      let low : blocks ≡ blocksIn (n + blocks) = omega (arith, dearest-number, blocks-small h k least g) in
+      subst (λ (b : ℕ). GivesDearest h k least (numberAlone (numberIn (n + blocks))) places b) low
       (record { answer = ap numberAlone high; done = g .done; refused = g .refused })

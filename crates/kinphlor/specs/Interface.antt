@@ -1,4 +1,4 @@
--- The C interface, "the host door" of document 01: whole sealing and opening with associated data and nonce, and opening under a ring of keys; and their work, planned from lengths.
+-- The C interface, "the host door" of document 01: whole sealing and opening with associated data and nonce, and opening under a ring of keys; their work, planned from lengths; and the dearest header list.
 -- Assumes nothing.
 use mathlib.Core.Path.{_≡_}
 use mathlib.Core.Bool.{Bool, cond, _&&_}
@@ -88,6 +88,13 @@ plannedFromC ad nonce n = cond (eqb nonce 0) 0 (plannedWork (aeadLens ad nonce) 
 
 -- ---- the dearest header list
 
--- what the interface promises of it: the answer from bit 32 on, the blocks below, and the list in the lent places
+-- the answer from bit 32 on, and the blocks below it
+abbrev pub numberIn : ℕ → ℕ
+numberIn given = given / 4294967296
+
+abbrev pub blocksIn : ℕ → ℕ
+blocksIn given = given % 4294967296
+
+-- what the interface promises of the number and of the lent places
 abbrev pub GivesDearestFromC : ℕ → ℕ → ℕ → List ℕ → ℕ → Type 0
-GivesDearestFromC h k least places given = GivesDearest h k least (numberAlone (given / 4294967296)) places (given % 4294967296)
+GivesDearestFromC h k least places given = GivesDearest h k least (numberAlone (numberIn given)) places (blocksIn given)

@@ -1,4 +1,4 @@
-// The C interface: whole sealing and opening over byte slices, and opening under a ring of keys, with associated data and nonce as the header list; and their work, planned from lengths.
+// The C interface: whole sealing and opening over byte slices, and opening under a ring of keys, with associated data and nonce as the header list; their work, planned from lengths; and the dearest header list.
 ghost use mathlib.Core.Path.{_≡_};
 ghost use Prim.Native.Nat.{_≤_};
 ghost use Rattle.answers.specs.Answer.{outcomeOf};

@@ -21,7 +21,7 @@ use Rattle.ctr.proofs.Laws.{length-xorStream}
 use Rattle.answers.specs.declared.Answer.{Answer}
 use Rattle.answers.specs.declared.Answer.the-variants.{Ok}
 use Rattle.answers.specs.Answer.{Outcome, Row, row, first, outcomeOf, success, numberAlone, forged}
-use Rattle.answers.proofs.Laws.{first-not, first-pass, first-stop, first-none, none-where, passed, not-due}
+use Rattle.answers.proofs.Laws.{first-not, first-pass, first-stop, first-none, none-where, not-due}
 use Rattle.siv.specs.declared.Report.{Report}
 use Rattle.siv.specs.Calls.{isKeyLength, limit, scratchNeed, headerRows, sealRows, openRows, Usable, DidCall, sealNumber, sealCall, openNumber, openCall}
 use Rattle.siv.specs.Siv.{tagOf, tagOfWork, streamed, streamedWork, sealed, sealedWork, opened, genuine, genuineWork}

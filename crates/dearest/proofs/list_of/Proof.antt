@@ -18,7 +18,7 @@ array-write-lens : tie.Need-array-write-lens
 array-write-lens c = search needs
 
 returns : tie.Need-returns
-returns c = laid _ _ _ (c .before .before .before .pre .0) (c .before .fill-at .ensures)
+returns c = laid (c .before .before .before .args .first) (c .before .before .before .args .count) (c .before .before .before .args .others) (c .before .before .before .pre .0) (c .before .fill-at .ensures)
 
 pub list-of-spec : {M : Type 1} → statement M
 list-of-spec = tie.close (tie.spec slice-aggregate-fill-at sub-fill-at fill-at-requires array-write-lens returns)
