@@ -75,7 +75,7 @@ extern "C" {
 enum kinphlor_answer {
     KINPHLOR_OK = 0,
     KINPHLOR_KEY_LENGTH = 1,     /* key_len is not 32, 48 or 64 */
-    KINPHLOR_HEADER_COUNT = 2,   /* more than 126 header strings; never from these functions, which have two */
+    KINPHLOR_HEADER_COUNT = 2,   /* more than 126 header strings; never from these functions */
     KINPHLOR_HEADER_LENGTHS = 3, /* ad_len + nonce_len is not header_len */
     KINPHLOR_TOO_LONG = 4,       /* plaintext over 1,048,576 bytes, or sealed record over 1,048,592 */
     KINPHLOR_SEALED_LENGTH = 5,  /* sealed record under 16 bytes */
@@ -85,7 +85,7 @@ enum kinphlor_answer {
     KINPHLOR_STATE = 9,          /* a stream state or a head that is not one for the call; never from these functions */
     KINPHLOR_EMPTY_NONCE = 10,   /* nonce_len is 0 */
     KINPHLOR_RING_LENGTH = 11,   /* ring_len is not one to four times key_len; from kinphlor_open_ring alone */
-    KINPHLOR_HEADER_PLAN = 12    /* no header list has such figures; from kinphlor_dearest_header alone */
+    KINPHLOR_HEADER_PLAN = 12    /* no header list is planned for such figures; from kinphlor_dearest_header alone */
 };
 
 uint64_t kinphlor_seal(const uint8_t *key, size_t key_len, const uint8_t *header, size_t header_len,
@@ -159,7 +159,7 @@ static inline const char *kinphlor_text(uint32_t number) {
     case KINPHLOR_STATE: return "the stream state or the head is not one for this call";
     case KINPHLOR_EMPTY_NONCE: return "the nonce is empty";
     case KINPHLOR_RING_LENGTH: return "the ring is not one to four whole keys";
-    case KINPHLOR_HEADER_PLAN: return "no header list has such figures";
+    case KINPHLOR_HEADER_PLAN: return "no header list is planned for such figures";
     default: return "unknown answer";
     }
 }

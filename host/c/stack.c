@@ -34,6 +34,16 @@ static void call(void)
     }
 }
 
+/* whether the call was answered; if not, why it failed */
+static int answered(void)
+{
+    if (kinphlor_number(answer) == KINPHLOR_OK) {
+        return 1;
+    }
+    printf("stack: a call was refused with %u\n", (unsigned)kinphlor_number(answer));
+    return 0;
+}
+
 /* the bytes of the room that a run takes */
 static size_t taken(void)
 {
@@ -55,7 +65,7 @@ static size_t taken(void)
 int main(void)
 {
     static const size_t lengths[SIZES] = {0, 40, 1 << 16};
-    size_t idle, most = 0;
+    size_t idle, planning, most = 0;
 
     function = NONE;
     idle = taken();
@@ -65,11 +75,10 @@ int main(void)
         memset(ring, 1, (KINPHLOR_RING_MAX - 1) * key_len);
         for (int i = 0; i < SIZES; i++) {
             record_len = lengths[i];
-            for (function = SEAL; function <= DEAREST; function++) {
+            for (function = SEAL; function <= OPEN_RING; function++) {
                 size_t n = taken() - idle;
 
-                if (kinphlor_number(answer) != KINPHLOR_OK) {
-                    printf("stack: a call was refused with %u\n", (unsigned)kinphlor_number(answer));
+                if (!answered()) {
                     return 1;
                 }
                 if (kinphlor_slot(answer) != (function == OPEN_RING ? KINPHLOR_RING_MAX - 1 : 0)) {
@@ -80,6 +89,12 @@ int main(void)
             }
         }
     }
+    function = DEAREST;
+    planning = taken() - idle;
+    if (!answered()) {
+        return 1;
+    }
+    most = planning > most ? planning : most;
     printf("stack: a call takes at most %zu bytes\n", most);
     return most == 0 || most >= LIMIT;
 }

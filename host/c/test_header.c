@@ -248,14 +248,14 @@ static void dearest(void) {
         {KINPHLOR_HEADER_MAX + 1, 126, 0, 0},
         {SIZE_MAX, 1, 1, 0},
     };
-    uint32_t lens[KINPHLOR_STRINGS_MAX + LATER];
+    uint32_t memory[LATER + KINPHLOR_STRINGS_MAX + LATER], *const lens = memory + LATER;
     size_t i, j;
 
     for (i = 0; i < sizeof rows / sizeof rows[0]; i++) {
         const int ok = rows[i].blocks > 0;
         uint64_t result, sum = 0, blocks = 0;
 
-        memset(lens, FILL, sizeof lens);
+        memset(memory, FILL, sizeof memory);
         result = kinphlor_dearest_header(rows[i].header_len, rows[i].count, rows[i].least, lens);
         CHECK("the answer", kinphlor_number(result) == (ok ? KINPHLOR_OK : KINPHLOR_HEADER_PLAN));
         CHECK("the most blocks", kinphlor_blocks(result) == rows[i].blocks);
@@ -270,7 +270,8 @@ static void dearest(void) {
         }
         CHECK("the list's sum", !ok || sum == rows[i].header_len);
         CHECK("the list's blocks", blocks == rows[i].blocks);
-        CHECK("later memory is left", all((const uint8_t *)(lens + KINPHLOR_STRINGS_MAX), LATER * sizeof lens[0], FILL));
+        CHECK("memory before is left", all((const uint8_t *)memory, LATER * sizeof *lens, FILL));
+        CHECK("later memory is left", all((const uint8_t *)(lens + KINPHLOR_STRINGS_MAX), LATER * sizeof *lens, FILL));
     }
 }
 

@@ -89,7 +89,7 @@ static uint64_t record_work(void) { return kinphlor_planned_work(AD_LEN, NONCE_L
 
 /*
  * How many blocks the header can take at the most, for a gym that knows only how many strings and bytes it will have and
- * that no string is empty; 0 where no header has such figures.
+ * that no string is empty; 0 where no header is planned for such figures.
  */
 static uint32_t worst_header(size_t strings, size_t bytes) {
     uint32_t lens[KINPHLOR_STRINGS_MAX];

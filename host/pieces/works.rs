@@ -1,6 +1,7 @@
 //! The work of calls at every short length: whole calls under keys and rings, heads and what begins from them; what is
-//! planned; and the dearest headers, sealed behind. Each call's work is held against the sum of slip 5 where the call is made (whole::run, heads::made,
-//! heads::record), and that sum here against a count of what goes through the cipher of a plain AES-SIV.
+//! planned; and records behind the dearest headers. Each call's work is held against the sum of slip 5 where the call is
+//! made (whole::run, heads::made, heads::record), and that sum here against a count of what goes through the cipher of a
+//! plain AES-SIV.
 
 use crate::aes::counted;
 use crate::heads;
@@ -29,9 +30,7 @@ pub fn run(Pieces { peers, random, .. }: &mut Pieces) {
                 let context = Context::random(random, key_len, lens.to_vec());
                 let plain = random.bytes(n);
                 let sealed = peers.seal(&context, &plain);
-                let mut damaged = sealed.clone();
-                random.flip(&mut damaged);
-                whole_calls(&context, &plain, &sealed, &damaged);
+                whole_calls(random, &context, &plain, &sealed);
                 rings(random, &context, &plain, &sealed);
                 splits(random, &context, &plain, &sealed);
             }
@@ -53,18 +52,20 @@ fn name(context: &Context, n: usize, does: &str) -> String {
 }
 
 /// Sealing, opening and forged opening.
-fn whole_calls(context: &Context, plain: &[u8], sealed: &[u8], damaged: &[u8]) {
+fn whole_calls(random: &mut Random, context: &Context, plain: &[u8], sealed: &[u8]) {
+    let mut damaged = sealed.to_vec();
+    random.flip(&mut damaged);
     let blocks = work::whole(&context.lens, plain.len());
     let reference = || Reference::new(&context.key, &context.strings());
     let what = |does: &'static str| move || name(context, plain.len(), does);
     count(what("sealing"), blocks, &sealed.to_vec(), || reference().seal(plain));
     count(what("opening"), blocks, &Some(plain.to_vec()), || reference().open(sealed));
-    count(what("forged opening"), blocks, &None, || reference().open(damaged));
+    count(what("forged opening"), blocks, &None, || reference().open(&damaged));
 
     let call = |function, input, want| run_whole(function, &context.with(input), want);
     call(Seal, plain, Want::Written(sealed));
     call(Open, sealed, Want::Written(plain));
-    call(Open, damaged, Want::Forged);
+    call(Open, &damaged, Want::Forged);
 
     let planned = planned_work(&context.lens, plain.len());
     check::holds(|| format!("{}: {planned}, not {blocks}", what("planned")()), planned == blocks);
@@ -150,8 +151,6 @@ fn dearest(peers: &Peers, random: &mut Random) {
             work::whole(&context.lens, plain.len()) == work::KEY + blocks + work::plain(plain.len()),
         );
         let sealed = peers.seal(&context, &plain);
-        let mut damaged = sealed.clone();
-        random.flip(&mut damaged);
-        whole_calls(&context, &plain, &sealed, &damaged);
+        whole_calls(random, &context, &plain, &sealed);
     }
 }

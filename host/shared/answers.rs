@@ -1,6 +1,6 @@
 //! The table of answers for whole calls, each case with a few things out of the ordinary.
 
-use crate::library::{Function, KEY_LENS, LIMIT, RING_MAX, TAG_LEN};
+use crate::library::{Function, KEY_LENS, LIMIT, RING_MAX, STRINGS_MAX, TAG_LEN};
 use crate::peers::{Libgcrypt, Peer};
 use crate::random::Random;
 use crate::table::{choices, Together};
@@ -41,7 +41,7 @@ const REFUSALS: [Row; 10] = [
     (1, |c| !KEY_LENS.contains(&c.key_len)),
     (11, |c| !(1..=RING_MAX).any(|count| c.ring_len() == count * c.key_len)),
     (10, |c| c.header.0[1] == 0),
-    (2, |c| c.header.0.len() > 126),
+    (2, |c| c.header.0.len() > STRINGS_MAX),
     (3, |c| c.header.0.iter().map(|&len| len as u64).sum::<u64>() != c.header.1 as u64),
     (5, |c| c.function != Seal && c.input_len < TAG_LEN),
     (4, |c| c.function.plain_len(c.input_len) > LIMIT),

@@ -94,12 +94,11 @@ pub fn greedy_lists(Cases { random, .. }: &mut Cases) {
     gives(142, 126, 1, 127);
     for count in [1, 2, 3, 125, 126] {
         for least in [0, 1] {
-            for header_len in (0..300).chain(HEADER_MAX - 40..=HEADER_MAX).filter(|&h| h >= count * least) {
-                if header_len < 300 || count < 3 {
-                    gives(header_len, count, least, greedy(header_len, count, least));
-                }
+            // The greedy list of many bytes in many strings takes long: one is enough.
+            let most = if count < 3 { HEADER_MAX - 40 } else { HEADER_MAX };
+            for header_len in (count * least..300).chain(most..=HEADER_MAX) {
+                gives(header_len, count, least, greedy(header_len, count, least));
             }
-            gives(HEADER_MAX, count, least, greedy(HEADER_MAX, count, least));
         }
     }
     for _ in 0..2000 {

@@ -1,4 +1,4 @@
-//! libkinphlor.a against OpenSSL's libcrypto and libgcrypt. Its last line is `host: N checks passed`.
+//! libkinphlor.a against OpenSSL's libcrypto and libgcrypt, and its dearest headers against lists made here. Its last line is `host: N checks passed`.
 
 mod cases;
 mod dearest;
@@ -23,6 +23,6 @@ fn main() {
         ("tags chosen by where the counter carries", Cases::chosen_tags),
         ("the dearest header beside every list of few bytes", dearest::every_list),
         ("the dearest header beside a greedy list", dearest::greedy_lists),
-        ("figures that no header list has", dearest::refused),
+        ("figures that no header list is planned for", dearest::refused),
     ]);
 }

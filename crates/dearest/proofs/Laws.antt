@@ -77,7 +77,7 @@ times-less k n h = let next : k ≡ suc (k - 1) = omega arith in ap (λ (m : ℕ
 
 -- ---- no list has more blocks
 
--- the blocks that no list passes: one for each string, and one more for every 16 bytes beyond the first, or beyond the least of all strings
+-- the blocks that no list passes: one for each string, and one more for every 16 bytes beyond the first byte, or beyond the k bytes that a least of 1 takes
 abbrev pub peak : ℕ → ℕ → ℕ → ℕ
 peak h k least = k + (h - max 1 (k * least)) / 16
 
@@ -162,13 +162,26 @@ reaches h k zero p = omega (arith, p)
 reaches h k (suc zero) p = omega (arith, p)
 reaches h k (suc (suc n)) p = absurd (omega (arith, p .small))
 
--- so the blocks that are given are the peak, whatever the list
-pub blocks-peak : (h k least : ℕ) {places : List ℕ} {blocks : ℕ} → Planned h k least → Dearest h k least places blocks → blocks ≡ peak h k least
-blocks-peak h k least {places = places} p d =
-    let less = times-less k least (p .some) in
-    let first = h - (k - 1) * least in
-    let other : Composes h k least (first ∷ replicate (k - 1) least) = composes-by h k least first least (p .some) (omega (arith, p .enough, less)) (omega (arith, p .enough, less)) (omega arith) in
-    omega (arith, d .counted, at-most h k least (take k places) (p .small) (d .composes), d .most (first ∷ replicate (k - 1) least) other, blocks-by k first least, reaches h k least p)
+-- so there is a dearest list
+module _ (h k least : ℕ) (p : Planned h k least) where
+  abbrev concentrated : List ℕ
+  concentrated = (h - (k - 1) * least) ∷ replicate (k - 1) least
+
+  concentrated-composes : Composes h k least concentrated
+  concentrated-composes =
+      let less = times-less k least (p .some) in
+      composes-by h k least (h - (k - 1) * least) least (p .some) (omega (arith, p .enough, less)) (omega (arith, p .enough, less)) (omega arith)
+
+  concentrated-reaches : peak h k least ≤ blocksOfAll concentrated
+  concentrated-reaches = omega (arith, blocks-by k (h - (k - 1) * least) least, reaches h k least p)
+
+  pub found : (places : List ℕ) × (blocks : ℕ) × Dearest h k least places blocks
+  found = (concentrated ++ replicate (126 - k) 0, _, dearest-by h k least concentrated (p .small) concentrated-composes concentrated-reaches refl refl)
+
+  -- and the blocks of any dearest list are the peak
+  pub blocks-peak : {places : List ℕ} {blocks : ℕ} → Dearest h k least places blocks → blocks ≡ peak h k least
+  blocks-peak {places = places} d =
+      omega (arith, d .counted, at-most h k least (take k places) (p .small) (d .composes), d .most concentrated concentrated-composes, concentrated-reaches)
 
 -- ---- its places
 

@@ -65,7 +65,7 @@ fn list_of(first: u32, count: usize, others: u32) -> [u32; 126]
 }
 
 // Of all lists of count lengths that sum to header_len, none under the least, one with the most blocks.
-// Every string has a block. A further one takes 16 bytes in a string that has a byte, and 17 in an empty one, so one string takes all that the others can leave.
+// Every string has a block, and each further one takes 16 bytes beyond a string's first; so one string takes all that the others can leave.
 pub fn header_list(header_len: usize, count: usize, least: usize) -> HeaderList
     ensures { λ r. ⌜ GivesDearest «header_len» count least (outcomeOf (r .answer) 0) (r .lens) (r .blocks) ⌝ }
 {
@@ -82,6 +82,6 @@ pub fn header_list(header_len: usize, count: usize, least: usize) -> HeaderList
     HeaderList {
         answer: Answer::Ok(0),
         lens,
-        blocks: header::blocks_of_all(&lens[0..count]),
+        blocks: header::blocks::of_all(&lens[0..count]),
     }
 }

@@ -63,18 +63,25 @@ module _ (key bytes lens input output scratch : List ℕ) where
         forged = λ e. absurd (first-not 8 (sealTable key bytes lens input output scratch) refl (λ z. omega (arith, z)) e);
       }
 
+  -- opening reports the sum of its lengths, for 8 as for success
+  pub opened-work : Reported (openCall key bytes lens input output scratch) (blockWork lens (length input - 16))
+  opened-work =
+      record {
+        done = λ e. ap (λ (o : Outcome). o .work) (answers-or-first-refusal .opening key bytes lens input output scratch .done e .0);
+        forged = λ e. ap (λ (o : Outcome). o .work) (answers-or-first-refusal .opening key bytes lens input output scratch .forged e .0);
+      }
+
+  open-planned : openJudged key bytes lens input output scratch ≡ 0 → blockWork lens (length input - 16) ≡ plannedWork lens (length input - 16)
+  open-planned z =
+      let admitted = open-admits key bytes lens input output scratch z in
+      planned lens (length input - 16) (admitted .few) (omega (arith, admitted .limited))
+
   opens : Reported (openCall key bytes lens input output scratch) (plannedWork lens (length input - 16))
   unfolding openCall
   opens =
       record {
-        done = λ e.
-            let admitted = open-admits key bytes lens input output scratch (open-passed key bytes lens input output scratch e) in
-            ap (λ (o : Outcome). o .work) (answers-or-first-refusal .opening key bytes lens input output scratch .done e .0)
-            ∙ planned lens (length input - 16) (admitted .few) (omega (arith, admitted .limited));
-        forged = λ e.
-            let admitted = open-admits key bytes lens input output scratch (open-forged key bytes lens input output scratch e) in
-            ap (λ (o : Outcome). o .work) (answers-or-first-refusal .opening key bytes lens input output scratch .forged e .0)
-            ∙ planned lens (length input - 16) (admitted .few) (omega (arith, admitted .limited));
+        done = λ e. opened-work .done e ∙ open-planned (open-passed key bytes lens input output scratch e);
+        forged = λ e. opened-work .forged e ∙ open-planned (open-forged key bytes lens input output scratch e);
       }
 
 -- from C: where the key is none to refuse, an empty nonce is refused

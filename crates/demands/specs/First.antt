@@ -23,10 +23,10 @@ use Rattle.head.specs.Head.{zeroHead, headOf, extended, MakeResult, madeHead, m
 use Rattle.stream.specs.declared.Stream.{Stream}
 use Rattle.stream.specs.State.{ended, start, added, tagOfState, tagOfStateWork, streamedAt}
 use Rattle.stream.specs.Steps.{StepResult, doneStep, refusedStep, tagRows, beginSealer, beginOpener, beginSealerFrom, beginOpenerFrom, addRows, addStep, turnRows, turned, turnStep, writeRows, wrote, writeStep, closeRows, closeStep, feedRows, deciphered, feedStep, finishTable, forgedStep, finishStep}
-use Rattle.kinphlor.specs.Interface.{aeadLens, packed, sealFromC, openFromC, packedRing, openRingFromC}
+use Rattle.kinphlor.specs.Interface.{aeadLens, packed, sealFromC, openFromC, packedRing, openRingFromC, numberIn}
 use Rattle.demands.specs.Model.{chained}
 
--- document 01's order of refusals, with document 02's 11 straight after 1; 12 is due where no other is
+-- document 01's order of refusals, with document 02's 11 straight after 1; 12 is alone in its table, so its place says nothing
 abbrev pub order : List ℕ
 order = 9 ∷ 1 ∷ 11 ∷ 10 ∷ 2 ∷ 3 ∷ 5 ∷ 4 ∷ 6 ∷ 7 ∷ 8 ∷ 12 ∷ []
 
@@ -134,7 +134,7 @@ pub record FirstDearest (h k least : ℕ) (outcome : Outcome) (places : List ℕ
 
 -- its parts as the header reads them: the answer from bit 32 on, the slot in the four bits below, the length in the 28 below these
 pub record Parts (given number slot count : ℕ) : Type 0 where
-  pub high : given / 4294967296 ≡ number
+  pub high : numberIn given ≡ number
   pub middle : given / 268435456 % 16 ≡ slot
   pub low : given % 268435456 ≡ count
 

@@ -1,12 +1,12 @@
 // The header list: one buffer of bytes and a list of lengths; string i is the next lens[i] bytes.
+pub mod blocks;
 pub mod reader;
 
 ghost use mathlib.Core.Path.{_≡_};
-ghost use Prim.Native.Nat.{_*_, _<_, _≤_, _^_};
+ghost use Prim.Native.Nat.{_<_};
 ghost use lib.Dec.{eqb, ltb};
 ghost use lib.ListN.{length, getD};
 ghost use Rattle.header.specs.Header.{total};
-ghost use Rattle.header.specs.Blocks.{blocksOf, blocksOfAll};
 
 // The most header strings that RFC 5297 allows.
 pub const MOST: usize = 126;
@@ -41,29 +41,4 @@ pub fn sums_to(lens: &[u32], n: usize) -> bool
         i += 1;
     }
     rest == 0
-}
-
-// How many blocks a string of n bytes has.
-pub fn blocks_of(n: usize) -> usize
-    ensures { λ r. ⌜ r ≡ blocksOf n ⌝ }
-{
-    if n == 0 {
-        return 1;
-    }
-    (n - 1) / 16 + 1
-}
-
-// The blocks of strings of these lengths.
-pub fn blocks_of_all(lens: &[u32]) -> usize
-    requires { ⌜ length (now lens) ≤ 126 ⌝ }
-    ensures all { λ r. ⌜ r ≡ blocksOfAll (now (lens .entry)) ⌝ }
-    ensures small { λ r. ⌜ r ≤ 126 * 2 ^ 28 ⌝ }
-{
-    let mut blocks = 0;
-    let mut i = 0;
-    while i < lens.len() {
-        blocks = blocks + blocks_of(length_at(lens, i));
-        i += 1;
-    }
-    blocks
 }

@@ -125,7 +125,7 @@ pub extern "C" fn kinphlor_planned_work(ad_len: u32, nonce_len: u32, n: usize) -
     siv::planned_work(&lens, n) as u64
 }
 
-// The dearest header list: of all lists of count lengths that sum to header_len, none under the least, one whose strings have the most blocks.
+// The dearest header list: of all lists of count lengths that sum to header_len, none under the least, one whose strings have the most blocks, to the lent places. The number is the answer's times 2 to the power 32, plus these blocks; after 12 places and blocks are zero.
 #[no_mangle]
 pub extern "C" fn kinphlor_dearest_header(
     header_len: usize,

@@ -8,9 +8,13 @@ use lib.ListN.{length}
 use Rattle.header.specs.Blocks.{sixteenths, blocksOf, blocksOfAll}
 use Rattle.siv.specs.Calls.{limit}
 
--- 2, for L and the CMAC of the zero block; the blocks of each header string and of the plaintext; and the plaintext's length divided by 16, rounded up
+-- 2, for L and the CMAC of the zero block; the blocks of the header strings and of the plaintext; and the plaintext's length divided by 16, rounded up
+abbrev pub workBehind : ℕ → ℕ → ℕ
+workBehind headerBlocks n = 2 + headerBlocks + blocksOf n + sixteenths n
+
+-- the same for header strings of these lengths
 abbrev pub blockWork : List ℕ → ℕ → ℕ
-blockWork lens n = 2 + blocksOfAll lens + blocksOf n + sixteenths n
+blockWork lens n = workBehind (blocksOfAll lens) n
 
 -- what a whole call with such lengths reports: 0 where it has too many header strings, or too long a plaintext
 unfoldable pub plannedWork : List ℕ → ℕ → ℕ

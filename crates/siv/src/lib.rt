@@ -158,5 +158,5 @@ pub fn planned_work(lens: &[u32], n: usize) -> usize
     if LIMIT < n {
         return 0;
     }
-    2 + header::blocks_of_all(lens) + header::blocks_of(n) + (n + 15) / 16
+    2 + header::blocks::of_all(lens) + header::blocks::of(n) + (n + 15) / 16
 }

@@ -49,22 +49,22 @@ cast-list-of-2 c = omega (arith, judged c .small)
 list-of-requires : tie.Need-list-of-requires
 list-of-requires c κs = (judged c .some, judged c .few)
 
-sub-blocks-of-all : tie.Need-sub-blocks-of-all
-sub-blocks-of-all c = search needs
+sub-of-all : tie.Need-sub-of-all
+sub-of-all c = search needs
 
-part-blocks-of-all-start : tie.Need-part-blocks-of-all-start
-part-blocks-of-all-start c = search needs
+part-of-all-start : tie.Need-part-of-all-start
+part-of-all-start c = search needs
 
-part-blocks-of-all-end : tie.Need-part-blocks-of-all-end
-part-blocks-of-all-end c = omega (arith, judged (c .before .before))
+part-of-all-end : tie.Need-part-of-all-end
+part-of-all-end c = omega (arith, judged (c .before .before))
 
-blocks-of-all-requires : tie.Need-blocks-of-all-requires
-blocks-of-all-requires c κs = simp length-take (omega (arith, judged (c .before .before .before)))
+of-all-requires : tie.Need-of-all-requires
+of-all-requires c κs = simp length-take (omega (arith, judged (c .before .before .before)))
 
 returns-2 : tie.Need-returns-2
 returns-2 c =
     let start = c .before .before .before .before in
-    list-gives _ _ _ _ _ (plan start) (c .before .before .before .list-of .ensures) (c .blocks-of-all .ensures .0) (omega (arith, left start)) (omega (arith, left start)) (omega arith) (reaches _ _ _ (judged start))
+    list-gives _ _ _ _ _ (plan start) (c .before .before .before .list-of .ensures) (c .of-all .ensures .0) (omega (arith, left start)) (omega (arith, left start)) (omega arith) (reaches _ _ _ (judged start))
 
 pub header-list-spec : {M : Type 1} → statement M
 header-list-spec =
@@ -78,8 +78,8 @@ header-list-spec =
     cast-list-of
     cast-list-of-2
     list-of-requires
-    sub-blocks-of-all
-    part-blocks-of-all-start
-    part-blocks-of-all-end
-    blocks-of-all-requires
+    sub-of-all
+    part-of-all-start
+    part-of-all-end
+    of-all-requires
     returns-2)

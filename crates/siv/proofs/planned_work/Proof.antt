@@ -25,28 +25,28 @@ returns-2 : tie.Need-returns-2
 unfolding plannedWork
 returns-2 c = simp (few (c .before), lt-ltb _ _ (c .if2 .taken))
 
-blocks-of-all-requires : tie.Need-blocks-of-all-requires
-blocks-of-all-requires c κs = ltb-false _ _ (few (c .before))
+of-all-requires : tie.Need-of-all-requires
+of-all-requires c κs = ltb-false _ _ (few (c .before))
 
 add-result : tie.Need-add-result
-add-result c = omega (arith, c .blocks-of-all .ensures)
+add-result c = omega (arith, c .of-all .ensures)
 
-blocks-of-requires : tie.Need-blocks-of-requires
-blocks-of-requires c κs = search needs
+of-requires : tie.Need-of-requires
+of-requires c κs = search needs
 
 add-result-2 : tie.Need-add-result-2
-add-result-2 c = omega (arith, c .before .blocks-of-all .ensures, c .blocks-of .ensures)
+add-result-2 c = omega (arith, c .before .of-all .ensures, c .of .ensures)
 
 add-result-3 : tie.Need-add-result-3
 add-result-3 c = search needs
 
 add-result-4 : tie.Need-add-result-4
-add-result-4 c = omega (arith, c .before .blocks-of-all .ensures, c .blocks-of .ensures)
+add-result-4 c = omega (arith, c .before .of-all .ensures, c .of .ensures)
 
 returns-3 : tie.Need-returns-3
 unfolding plannedWork
 returns-3 c =
-    simp (few (c .before .before .before), le-ltb _ _ (c .before .before .if2 .left)) (omega (arith, c .before .blocks-of-all .ensures .0, c .blocks-of .ensures))
+    simp (few (c .before .before .before), le-ltb _ _ (c .before .before .if2 .left)) (omega (arith, c .before .of-all .ensures .0, c .of .ensures))
 
 pub planned-work-spec : {M : Type 1} → statement M
 planned-work-spec =
@@ -55,9 +55,9 @@ planned-work-spec =
     too-many-requires
     returns
     returns-2
-    blocks-of-all-requires
+    of-all-requires
     add-result
-    blocks-of-requires
+    of-requires
     add-result-2
     add-result-3
     add-result-4

@@ -1,4 +1,4 @@
--- `header::blocks_of_all` meets its contract: after i turns the blocks of i strings are counted.
+-- `header::blocks::of_all` meets its contract: after i turns the blocks of i strings are counted.
 -- Assumes nothing.
 use mathlib.Core.Path.{_≡_, refl, ap, _∙_}
 use Prim.Native.Nat.{ℕ, _-_, _*_, _≤_, _<_, _^_}
@@ -7,14 +7,14 @@ use lib.ListN.{length, getD, take}
 use borrow.Author.Needs.{needs}
 use Rattle.header.specs.Blocks.{blocksOf, blocksOfAll}
 use Rattle.header.proofs.Laws.{blocks-next, blocks-all}
-use Rattle.header.proofs.blocks_of_all.Statement.{statement}
-use Rattle.header.proofs.blocks_of_all.Tie as tie
+use Rattle.header.proofs.blocks.of_all.Statement.{statement}
+use Rattle.header.proofs.blocks.of_all.Tie as tie
 
 abbrev Inv-loop : tie.InvT-loop
-Inv-loop lens blocks₀ i₀ blocks i = (i ≤ length lens) × (blocks ≡ blocksOfAll (take i lens)) × (blocks ≤ i * 268435456)
+Inv-loop lens sum₀ i₀ sum i = (i ≤ length lens) × (sum ≡ blocksOfAll (take i lens)) × (sum ≤ i * 268435456)
 
 abbrev μ-loop : tie.MeasureT-loop
-μ-loop lens blocks₀ i₀ blocks i = length lens - i
+μ-loop lens sum₀ i₀ sum i = length lens - i
 
 loop-holds : tie.Need-loop-holds Inv-loop μ-loop
 unfolding blocksOfAll
@@ -27,13 +27,13 @@ small c i = c .shared-slice-known .given i .fits
 length-at-requires : tie.Need-length-at-requires Inv-loop μ-loop
 length-at-requires c κs = search needs
 
-blocks-of-requires : tie.Need-blocks-of-requires Inv-loop μ-loop
-blocks-of-requires c κs = search needs
+of-requires : tie.Need-of-requires Inv-loop μ-loop
+of-requires c κs = search needs
 
-add-blocks : tie.Need-add-blocks Inv-loop μ-loop
-add-blocks c =
+add-sum : tie.Need-add-sum Inv-loop μ-loop
+add-sum c =
     let inv = c .before .before .before .loop .inv in
-    omega (arith, inv, c .blocks-of .ensures, c .before .length-at .ensures, small (c .before .before .before .before) (c .before .before .before .loop .i), c .before .before .before .before .before .pre)
+    omega (arith, inv, c .of .ensures, c .before .length-at .ensures, small (c .before .before .before .before) (c .before .before .before .loop .i), c .before .before .before .before .before .pre)
 
 add-i : tie.Need-add-i Inv-loop μ-loop
 add-i c = search needs
@@ -47,7 +47,7 @@ loop-again c =
     let inv = head .loop .inv in
     let i = head .loop .i in
     let lens = head .before .before .args .lens .now in
-    let counted : c .blocks-of .result ≡ blocksOf (getD lens i 0) = c .blocks-of .ensures ∙ ap blocksOf (c .before .length-at .ensures) in
+    let counted : c .of .result ≡ blocksOf (getD lens i 0) = c .of .ensures ∙ ap blocksOf (c .before .length-at .ensures) in
     let next = blocks-next lens i (omega arith) in
     (omega arith, omega (arith, inv, counted, next), omega (arith, inv, counted, small (head .before) i))
 
@@ -59,16 +59,16 @@ returns c =
     let done : length lens ≤ c .before .loop .i = omega arith in
     (inv .1 ∙ blocks-all lens (c .before .loop .i) done, omega (arith, inv, start .pre))
 
-pub blocks-of-all-spec : {M : Type 1} → statement M
-blocks-of-all-spec =
+pub of-all-spec : {M : Type 1} → statement M
+of-all-spec =
     tie.close
     (tie.spec
     Inv-loop
     μ-loop
     loop-holds
     length-at-requires
-    blocks-of-requires
-    add-blocks
+    of-requires
+    add-sum
     add-i
     loop-less
     loop-again
