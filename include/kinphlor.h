@@ -6,10 +6,10 @@
  *
  * kinphlor_seal and kinphlor_open work under one key. kinphlor_open_ring is for the time in which keys change: it tries
  * the keys of a ring from slot 0 on and stops at the first that opens the record. With a ring of one key it does what
- * kinphlor_open does. Two functions below are for planning, from lengths alone: kinphlor_planned_work tells how many
- * blocks a record takes, kinphlor_dearest_header how many its header strings can take at the most.
+ * kinphlor_open does. Two functions below are for planning: kinphlor_planned_work tells how many blocks a record of known
+ * lengths takes, kinphlor_dearest_header how many its header strings can take at the most while their lengths are open.
  *
- * The first three take the same arguments but for the keys. n is the plaintext's length.
+ * seal, open and open_ring take the same arguments but for the keys. n is the plaintext's length.
  *
  *   key, key_len        seal, open: 32, 48 or 64 bytes. The first half serves the tag, the second half the key stream.
  *   key_len,            open_ring: the length of one key, 32, 48 or 64; and the ring, one to four keys of that length,
@@ -113,29 +113,32 @@ uint64_t kinphlor_open_ring(size_t key_len, const uint8_t *ring, size_t ring_len
 uint64_t kinphlor_planned_work(uint32_t ad_len, uint32_t nonce_len, size_t n);
 
 /*
- * The dearest header, for a gym that has not picked its header strings yet. Of all lists of count lengths that sum to
- * header_len, none of them under least, it writes one whose strings have the most blocks, and gives these blocks
- * (kinphlor_blocks). No other such list has more. Several may have as many, and which of them is written may change.
+ * The dearest header, for whoever has not picked the header strings yet. Of all lists of count lengths that sum to
+ * header_len, none of them under least, it writes one whose strings have the most blocks, counted as above: a short last
+ * block is one, and an empty string has one. No other such list has more. Several may have as many; which of them is
+ * written is left open, and may be another in a later version.
  *
  *   header_len  how many bytes the strings have together: at most 1,048,576, and not under count times least
  *   count       how many strings there are: 1 to 126
  *   least       the least length of each: 0, or 1 where no string may be empty
  *   lens        126 places. The list's lengths come first; those past count become 0.
  *
- * With other figures the answer is 12 (kinphlor_number), and all places and the blocks are 0; there is no other refusal.
- * A record of n bytes takes 2 blocks, those of its header, those of its plaintext and n divided by 16, rounded up. From C
- * a header has two strings, associated data and nonce; a wall unit's own may have up to 126. lens must be valid for 126
- * numbers and not null.
+ * The result is one number: the answer times 2 to the power 32, plus the list's blocks (kinphlor_number,
+ * kinphlor_blocks). With other figures the answer is 12, and the blocks and all places are 0; there is no other refusal.
+ * A record of n bytes takes 2 blocks, those of its header, those of its plaintext and n divided by 16, rounded up.
+ *
+ * The header of these functions has two strings, of which the associated data may be empty: ask with count 2 and least 0.
+ * More strings are for records that a program in Rattle seals. lens must be valid for 126 numbers and not null.
  */
 uint64_t kinphlor_dearest_header(size_t header_len, size_t count, size_t least, uint32_t lens[KINPHLOR_STRINGS_MAX]);
 
 /* The answer in a result: one of enum kinphlor_answer. */
 static inline uint32_t kinphlor_number(uint64_t result) { return (uint32_t)(result >> 32); }
 
-/* The slot in a result: which key of the ring opened the record. It is 0 after a refusal too. */
+/* The slot in a result of seal, open or open_ring: which key of the ring opened. It is 0 after a refusal too. */
 static inline uint32_t kinphlor_slot(uint64_t result) { return (uint32_t)(result >> 28) & 15u; }
 
-/* The length in a result: how many bytes of the output were written. */
+/* The length in a result of seal, open or open_ring: how many bytes of the output were written. */
 static inline uint32_t kinphlor_length(uint64_t result) { return (uint32_t)(result & 0x0fffffffu); }
 
 /* The blocks in a result of kinphlor_dearest_header. */

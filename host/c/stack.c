@@ -34,8 +34,8 @@ static void call(void)
     }
 }
 
-/* whether the call was answered; if not, why it failed */
-static int answered(void)
+/* whether the call succeeded; if not, says with what it was refused */
+static int succeeded(void)
 {
     if (kinphlor_number(answer) == KINPHLOR_OK) {
         return 1;
@@ -49,6 +49,7 @@ static size_t taken(void)
 {
     size_t i = 0;
 
+    answer = UINT64_MAX;
     memset(room, PAINT, ROOM);
     getcontext(&there);
     there.uc_stack.ss_sp = room;
@@ -78,7 +79,7 @@ int main(void)
             for (function = SEAL; function <= OPEN_RING; function++) {
                 size_t n = taken() - idle;
 
-                if (!answered()) {
+                if (!succeeded()) {
                     return 1;
                 }
                 if (kinphlor_slot(answer) != (function == OPEN_RING ? KINPHLOR_RING_MAX - 1 : 0)) {
@@ -91,10 +92,9 @@ int main(void)
     }
     function = DEAREST;
     planning = taken() - idle;
-    if (!answered()) {
+    if (!succeeded()) {
         return 1;
     }
-    most = planning > most ? planning : most;
-    printf("stack: a call takes at most %zu bytes\n", most);
-    return most == 0 || most >= LIMIT;
+    printf("stack: a call takes at most %zu bytes, planning a header %zu\n", most, planning);
+    return most == 0 || most >= LIMIT || planning == 0 || planning > most;
 }

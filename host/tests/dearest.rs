@@ -21,13 +21,14 @@ fn given(header_len: usize, count: usize, least: usize) -> Option<u64> {
     let places: &mut [u32; STRINGS_MAX] = (&mut memory[BESIDE..][..STRINGS_MAX]).try_into().expect("there are 126 places");
     let (number, blocks) = dearest_header(header_len, count, least, places);
     let places = *places;
-    let beside = memory[..BESIDE].iter().chain(&memory[BESIDE + STRINGS_MAX..]);
-    holds("memory beside the places", beside.into_iter().all(|&len| len == FILL));
+    holds("memory before the places is written", memory[..BESIDE].iter().all(|&len| len == FILL));
+    holds("memory behind the places is written", memory[BESIDE + STRINGS_MAX..].iter().all(|&len| len == FILL));
     if number != 0 {
         holds(&format!("refused with {number}"), number == 12);
         holds("a list or blocks after 12", blocks == 0 && places.iter().all(|&len| len == 0));
         return None;
     }
+    holds("planned with more strings than places", count <= STRINGS_MAX);
     let (list, past) = places.split_at(count);
     holds("a length past the count", past.iter().all(|&len| len == 0));
     holds("a length under the least", list.iter().all(|&len| len as usize >= least));
@@ -116,6 +117,12 @@ pub fn refused(Cases { random, .. }: &mut Cases) {
     let lens = [0, 1, 2, 125, 126, 127, HEADER_MAX - 1, HEADER_MAX, HEADER_MAX + 1, random.below(HEADER_MAX)];
     let counts = [0, 1, 2, 125, 126, 127, 128, 1 + random.below(STRINGS_MAX)];
     let leasts = [0, 1, 2, 3];
+    for count in 1..=STRINGS_MAX {
+        for (header_len, due) in [(count - 1, true), (count, false), (count + 1, false)] {
+            refuses(header_len, count, 1, due);
+            refuses(header_len, count, 0, false);
+        }
+    }
     for &header_len in lens.iter().chain(&far) {
         for &count in counts.iter().chain(&far) {
             for &least in leasts.iter().chain(&far) {

@@ -13,6 +13,9 @@ fail() {
     exit 1
 }
 
+for language in c rust rattle; do
+    [ -z "$(block "$language" 2)" ] || fail "a second block in $language, which is not compared"
+done
 block c 1 | diff - host/c/example.c || fail 'the example in C is not host/c/example.c'
 block rust 1 | diff - host/rust/example.rs || fail 'the example in Rust is not host/rust/example.rs'
 [ -n "$(block rattle 1)" ] || fail 'no example in Rattle'

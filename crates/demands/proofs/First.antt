@@ -382,7 +382,7 @@ answers-or-first-refusal =
       openingRingParts = λ keyLength ring header input output scratch ad nonce.
           ring-parts keyLength ring header (aeadLens ad nonce) input output scratch (row 10 (eqb nonce 0) ∷ [])
           (ring-comes-from-c keyLength ring header input output scratch ad nonce);
-      planning = λ h k least outcome places blocks g. by-plan h k least g;
+      findingDearest = λ h k least outcome places blocks g. by-plan h k least g;
       makingHead = λ key bytes lens. by-head _ _ _ _ refl (header-work key bytes lens);
       extendingHead = λ h bytes lens. by-head _ _ _ _ (rest-ordered h lens (length bytes)) (rest-work h bytes lens);
       beginningSealer = λ key bytes lens. by-begin _ _ _ (headOf key (strings bytes lens)) 1 zeros refl (header-work key bytes lens);

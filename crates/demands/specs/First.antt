@@ -195,7 +195,7 @@ pub record First : Type 0 where
   pub openingRingParts : (keyLength : ℕ) (ring header input output scratch : List ℕ) (ad nonce : ℕ)
       → let r = openRingFromC keyLength ring header ad nonce input output scratch in
       Parts (packedRing (r .slot) (r .call .outcome)) (r .call .outcome .number) (r .slot) (r .call .outcome .count)
-  pub planning : (h k least : ℕ) (outcome : Outcome) (places : List ℕ) (blocks : ℕ) → GivesDearest h k least outcome places blocks
+  pub findingDearest : (h k least : ℕ) (outcome : Outcome) (places : List ℕ) (blocks : ℕ) → GivesDearest h k least outcome places blocks
       → FirstDearest h k least outcome places blocks
   pub makingHead : (key bytes lens : List ℕ)
       → FirstHead (headerRows (length key) lens (length bytes)) (makeHead key bytes lens) (2 + blocksOfAll lens) (headOf key (strings bytes lens))
