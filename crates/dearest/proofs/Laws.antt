@@ -16,9 +16,17 @@ use Rattle.header.specs.Header.{total}
 use Rattle.header.specs.Blocks.{blocksOf, blocksOfAll}
 use Rattle.answers.specs.Answer.{Outcome, numberAlone, first}
 use Rattle.answers.proofs.Laws.{not-due}
-use Rattle.dearest.specs.Dearest.{mostBytes, isPlan, planRows, Planned, AllAtLeast, Composes, Dearest, GivesDearest}
+use Rattle.dearest.specs.Dearest.{mostBytes, isPlan, planRows, AllAtLeast, Composes, Dearest, GivesDearest}
 
 -- ---- which figures are planned for
+
+-- `isPlan` as a statement
+pub record Planned (h k least : ℕ) : Type 0 where
+  pub some : 1 ≤ k
+  pub few : k ≤ 126
+  pub small : least ≤ 1
+  pub bounded : h ≤ mostBytes
+  pub enough : k * least ≤ h
 
 -- a least length is 0 or 1 exactly where it is at most 1
 pub least-small : (least : ℕ) → (eqb least 0 || eqb least 1) ≡ true → least ≤ 1

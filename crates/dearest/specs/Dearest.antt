@@ -18,14 +18,6 @@ mostBytes = 1048576
 unfoldable pub isPlan : ℕ → ℕ → ℕ → Bool
 isPlan h k least = not (ltb k 1) && not (ltb 126 k) && (eqb least 0 || eqb least 1) && not (ltb mostBytes h) && not (ltb h (k * least))
 
--- the same as a statement
-pub record Planned (h k least : ℕ) : Type 0 where
-  pub some : 1 ≤ k
-  pub few : k ≤ 126
-  pub small : least ≤ 1
-  pub bounded : h ≤ mostBytes
-  pub enough : k * least ≤ h
-
 -- the one refusal
 abbrev pub planRows : ℕ → ℕ → ℕ → List Row
 planRows h k least = row 12 (not (isPlan h k least)) ∷ []

@@ -1,4 +1,4 @@
--- Slip 6's promises hold: 12 is due where it should be, both checks give 127, and the calls report the blocks that are given.
+-- Slip 6's promises hold: 12 is due under its conditions alone, both checks give 127, and the calls report the blocks that are given.
 -- Assumes nothing.
 use mathlib.Core.Path.{_≡_, refl, ap, sym, subst, _∙_}
 use mathlib.Core.Bool.{true}
@@ -9,11 +9,11 @@ use native.Mathlib.Omega.{arith}
 use lib.ListN.{length, take}
 use Rattle.header.specs.Blocks.{blocksOfAll}
 use Rattle.answers.specs.Answer.{Outcome, success, first}
-use Rattle.dearest.specs.Dearest.{isPlan, Planned, planRows, Dearest, GivesDearest}
-use Rattle.dearest.proofs.Laws.{plan-by, no-plan, planned-row, found, blocks-peak}
+use Rattle.dearest.specs.Dearest.{isPlan, planRows, Dearest, GivesDearest}
+use Rattle.dearest.proofs.Laws.{Planned, plan-by, no-plan, planned-row, found, blocks-peak}
 use Rattle.siv.specs.Calls.{isKeyLength, sealCall, openCall}
 use Rattle.siv.specs.Work.{workBehind}
-use Rattle.demands.specs.Dearest.{AsReported, DearestHeader}
+use Rattle.demands.specs.Dearest.{AsReported, TwelveDue, DearestHeader}
 use Rattle.demands.specs.Whole.{Admits}
 use Rattle.demands.specs.Work.{Reported}
 use Rattle.demands.proofs.First.{answers-or-first-refusal}
@@ -64,15 +64,29 @@ module _ (h k least : ℕ) (places : List ℕ) (blocks : ℕ) (p : Planned h k l
         opensNoDearer = λ other o key bytes input output scratch. opened-most key bytes other input output scratch blocks (d .most other o);
       }
 
+-- 12 is due where a condition of a plan fails, and where none does it is not
+module _ (h k least : ℕ) where
+  unplanned : (Planned h k least → ⊥) → first (planRows h k least) ≡ 12
+  unplanned n = simp (no-plan h k least n)
+
+  twelve-due : TwelveDue h k least
+  twelve-due =
+      record {
+        noStrings = λ e. unplanned (λ p. omega (arith, p .some));
+        manyStrings = λ e. unplanned (λ p. omega (arith, p .few));
+        otherLeast = λ a b. unplanned (λ p. omega (arith, p .small, a, b));
+        pastBound = λ e. unplanned (λ p. omega (arith, p .bounded));
+        fewBytes = λ e. unplanned (λ p. omega (arith, p .enough));
+        otherwise = λ some few small bounded enough. simp (plan-by h k least (record { some = some; few = few; small = small; bounded = bounded; enough = enough }));
+      }
+
 pub dearest-and-reported : DearestHeader
 unfolding isPlan
 dearest-and-reported =
     record {
-      planned = λ h k least p. simp (plan-by h k least p);
-      unplanned = λ h k least n. simp (no-plan h k least n);
-      atBound = refl;
-      pastBound = refl;
-      found = found;
+      refusals = twelve-due;
+      found = λ h k least e. found h k least (planned-row h k least e);
+      figure = λ h k least outcome places blocks g e. let z = given h k least g e in blocks-peak h k least (planned-row h k least z) (g .done z);
       check1 = λ outcome places blocks g. blocks-peak 17 126 0 (planned-row 17 126 0 refl) (g .done refl);
       check2 = λ outcome places blocks g. blocks-peak 142 126 1 (planned-row 142 126 1 refl) (g .done refl);
       reported = λ h k least outcome places blocks g e. let z = given h k least g e in as-reported h k least places blocks (planned-row h k least z) (g .done z);

@@ -3,11 +3,11 @@
 use mathlib.Core.Path.{_≡_}
 use mathlib.Core.Bool.{true}
 use mathlib.Core.List.{List}
-use Prim.Native.Nat.{ℕ, _+_, _-_, _≤_}
+use Prim.Native.Nat.{ℕ, _+_, _-_, _*_, _/_, _≤_, _<_, max}
 use lib.ListN.{length, take}
 use Rattle.header.specs.Header.{strings}
 use Rattle.answers.specs.Answer.{Outcome, first}
-use Rattle.dearest.specs.Dearest.{Planned, planRows, Composes, Dearest, GivesDearest}
+use Rattle.dearest.specs.Dearest.{planRows, Composes, Dearest, GivesDearest}
 use Rattle.siv.specs.Calls.{isKeyLength, limit, scratchNeed, sealCall, openCall}
 use Rattle.siv.specs.Siv.{sealed}
 use Rattle.siv.specs.Work.{workBehind}
@@ -30,16 +30,23 @@ pub record AsReported (h k least : ℕ) (places : List ℕ) (blocks : ℕ) : Typ
   pub opensNoDearer : (other : List ℕ) → Composes h k least other → (key bytes input output scratch : List ℕ)
       → openCall key bytes other input output scratch .outcome .work ≤ workBehind blocks (length input - 16)
 
+-- slip 6's conditions for 12, and that there are no others
+pub record TwelveDue (h k least : ℕ) : Type 0 where
+  pub noStrings : k < 1 → first (planRows h k least) ≡ 12
+  pub manyStrings : 126 < k → first (planRows h k least) ≡ 12
+  pub otherLeast : (least ≡ 0 → ⊥) → (least ≡ 1 → ⊥) → first (planRows h k least) ≡ 12
+  pub pastBound : 1048576 < h → first (planRows h k least) ≡ 12
+  pub fewBytes : h < k * least → first (planRows h k least) ≡ 12
+  pub otherwise : 1 ≤ k → k ≤ 126 → least ≤ 1 → h ≤ 1048576 → k * least ≤ h → first (planRows h k least) ≡ 0
+
 -- What a gym may rely on: for all figures, and whatever answer the promise allows.
 pub record DearestHeader : Type 0 where
-  -- 12 is due exactly where the figures are not planned for
-  pub planned : (h k least : ℕ) → Planned h k least → first (planRows h k least) ≡ 0
-  pub unplanned : (h k least : ℕ) → (Planned h k least → ⊥) → first (planRows h k least) ≡ 12
-  -- the most header bytes are 1,048,576
-  pub atBound : first (planRows 1048576 126 1) ≡ 0
-  pub pastBound : first (planRows 1048577 126 1) ≡ 12
-  -- where they are planned for, there is a dearest list
-  pub found : (h k least : ℕ) → Planned h k least → (places : List ℕ) × (blocks : ℕ) × Dearest h k least places blocks
+  pub refusals : (h k least : ℕ) → TwelveDue h k least
+  -- where 12 is not due, there is a dearest list
+  pub found : (h k least : ℕ) → first (planRows h k least) ≡ 0 → (places : List ℕ) × (blocks : ℕ) × Dearest h k least places blocks
+  -- its blocks: one for each string, and one more for every 16 bytes beyond the first byte, or beyond one byte for each string where none may be empty
+  pub figure : (h k least : ℕ) (outcome : Outcome) (places : List ℕ) (blocks : ℕ) → GivesDearest h k least outcome places blocks → outcome .number ≡ 0
+      → blocks ≡ k + (h - max 1 (k * least)) / 16
   -- the two checks of slip 6
   pub check1 : (outcome : Outcome) (places : List ℕ) (blocks : ℕ) → GivesDearest 17 126 0 outcome places blocks → blocks ≡ 127
   pub check2 : (outcome : Outcome) (places : List ℕ) (blocks : ℕ) → GivesDearest 142 126 1 outcome places blocks → blocks ≡ 127

@@ -7,8 +7,8 @@ use native.Mathlib.Omega.{arith}
 use lib.ListN.{length-take}
 use borrow.Author.Needs.{needs}
 use borrow.Author.Tests.{not-true, not-false}
-use Rattle.dearest.specs.Dearest.{isPlan, Planned}
-use Rattle.dearest.proofs.Laws.{planned, refuses, times-less, list-gives, reaches}
+use Rattle.dearest.specs.Dearest.{isPlan}
+use Rattle.dearest.proofs.Laws.{Planned, planned, refuses, times-less, list-gives, reaches}
 use Rattle.dearest.proofs.header_list.Statement.{statement}
 use Rattle.dearest.proofs.header_list.Tie as tie
 
