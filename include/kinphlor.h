@@ -127,8 +127,10 @@ uint64_t kinphlor_planned_work(uint32_t ad_len, uint32_t nonce_len, size_t n);
  * kinphlor_blocks). With other figures the answer is 12, and the blocks and all places are 0; there is no other refusal.
  * A record of n bytes takes 2 blocks, those of its header, those of its plaintext and n divided by 16, rounded up.
  *
- * The header of these functions has two strings, of which the associated data may be empty: ask with count 2 and least 0.
- * More strings are for records that a program in Rattle seals. lens must be valid for 126 numbers and not null.
+ * The header of kinphlor_seal has two strings, of which the associated data may be empty and the nonce may not: ask with
+ * count 2, least 0 and a header_len of 1 or more. If the second length is then 0, exchange the two: a list's blocks do not
+ * depend on its order. More strings are for records that a program in Rattle seals. lens must be valid for 126 numbers
+ * and not null.
  */
 uint64_t kinphlor_dearest_header(size_t header_len, size_t count, size_t least, uint32_t lens[KINPHLOR_STRINGS_MAX]);
 

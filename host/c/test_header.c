@@ -275,6 +275,24 @@ static void dearest(void) {
     }
 }
 
+/* The dearest header of two strings, asked for as kinphlor.h says: a record is sealed behind it, and none takes more blocks. */
+static void dearest_pair(uint32_t header_len) {
+    uint32_t lens[KINPHLOR_STRINGS_MAX], nonce_len;
+    const uint64_t result = kinphlor_dearest_header(header_len, 2, 0, lens);
+    const uint64_t most = 2 + (uint64_t)kinphlor_blocks(result) + 3 + 3;
+
+    CHECK("a list", kinphlor_number(result) == KINPHLOR_OK);
+    if (lens[1] == 0) {
+        lens[1] = lens[0];
+        lens[0] = 0;
+    }
+    CHECK("the work", kinphlor_planned_work(lens[0], lens[1], PLAIN_LEN) == most);
+    record(32, lens[0], lens[1]);
+    for (nonce_len = 1; nonce_len <= header_len; nonce_len++) {
+        CHECK("no more work", kinphlor_planned_work(header_len - nonce_len, nonce_len, PLAIN_LEN) <= most);
+    }
+}
+
 /* The numbers are those of the table, and each has a text of its own. */
 static void texts(void) {
     static const uint32_t numbers[] = {KINPHLOR_OK,             KINPHLOR_KEY_LENGTH,    KINPHLOR_HEADER_COUNT,
@@ -319,6 +337,7 @@ int main(void) {
     ring_nulls();
     planned();
     dearest();
+    for (i = 1; i <= sizeof header; i++) dearest_pair((uint32_t)i);
     texts();
     printf("c: %u checks passed\n", checks);
     return 0;
