@@ -85,7 +85,7 @@ enum kinphlor_answer {
     KINPHLOR_STATE = 9,          /* a stream state or a head that is not one for the call; never from these functions */
     KINPHLOR_EMPTY_NONCE = 10,   /* nonce_len is 0 */
     KINPHLOR_RING_LENGTH = 11,   /* ring_len is not one to four times key_len; from kinphlor_open_ring alone */
-    KINPHLOR_HEADER_PLAN = 12    /* no header list is planned for such figures; from kinphlor_dearest_header alone */
+    KINPHLOR_HEADER_PLAN = 12    /* header_len, count or least out of bounds; from kinphlor_dearest_header alone */
 };
 
 uint64_t kinphlor_seal(const uint8_t *key, size_t key_len, const uint8_t *header, size_t header_len,
@@ -114,9 +114,8 @@ uint64_t kinphlor_planned_work(uint32_t ad_len, uint32_t nonce_len, size_t n);
 
 /*
  * The dearest header, for whoever has not picked the header strings yet. Of all lists of count lengths that sum to
- * header_len, none of them under least, it writes one whose strings have the most blocks, counted as above: a short last
- * block is one, and an empty string has one. No other such list has more. Several may have as many; which of them is
- * written is left open, and may be another in a later version.
+ * header_len, none of them under least, it writes one whose strings have the most blocks, counted as above. No other such
+ * list has more. Several may have as many; which of them is written is left open, and may be another in a later version.
  *
  *   header_len  how many bytes the strings have together: at most 1,048,576, and not under count times least
  *   count       how many strings there are: 1 to 126
@@ -125,7 +124,7 @@ uint64_t kinphlor_planned_work(uint32_t ad_len, uint32_t nonce_len, size_t n);
  *
  * The result is one number: the answer times 2 to the power 32, plus the list's blocks (kinphlor_number,
  * kinphlor_blocks). With other figures the answer is 12, and the blocks and all places are 0; there is no other refusal.
- * A record of n bytes takes 2 blocks, those of its header, those of its plaintext and n divided by 16, rounded up.
+ * A record behind such a header takes the sum above, with these blocks for its strings.
  *
  * The header of kinphlor_seal has two strings, of which the associated data may be empty and the nonce may not: ask with
  * count 2, least 0 and a header_len of 1 or more. If the second length is then 0, exchange the two: a list's blocks do not
@@ -164,7 +163,7 @@ static inline const char *kinphlor_text(uint32_t number) {
     case KINPHLOR_STATE: return "the stream state or the head is not one for this call";
     case KINPHLOR_EMPTY_NONCE: return "the nonce is empty";
     case KINPHLOR_RING_LENGTH: return "the ring is not one to four whole keys";
-    case KINPHLOR_HEADER_PLAN: return "no header list is planned for such figures";
+    case KINPHLOR_HEADER_PLAN: return "a figure is out of bounds: 1 to 126 strings, a least length of 0 or 1, strings times least to 1,048,576 bytes";
     default: return "unknown answer";
     }
 }

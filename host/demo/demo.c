@@ -89,7 +89,8 @@ static uint64_t record_work(void) { return kinphlor_planned_work(AD_LEN, NONCE_L
 
 /*
  * How many blocks the header can take at the most, for a gym that knows only how many strings and bytes it will have and
- * that no string is empty; 0 where no header is planned for such figures.
+ * that no string is empty; 0 where these are out of bounds. Where strings may be empty, as kinphlor_seal's associated data
+ * may, the least is 0 in place of 1.
  */
 static uint32_t worst_header(size_t strings, size_t bytes) {
     uint32_t lens[KINPHLOR_STRINGS_MAX];

@@ -26,7 +26,7 @@ pub enum Refusal {
     EmptyNonce,
     // The ring is not one to four whole keys.
     RingLength,
-    // No header list is planned for such figures.
+    // The figures for a header list are out of bounds: how many strings, how many bytes, or the least length.
     HeaderPlan,
 }
 

@@ -225,6 +225,7 @@ by-plan h k least {outcome = outcome} g =
       ordered = refl;
       first = subst (FirstDue (planRows h k least)) (sym number) (first-due (planRows h k least));
       done = λ e. let z = sym number ∙ e in (g .answer ∙ ap numberAlone z, g .done z);
+      past = λ e. g .done (sym number ∙ e) .past;
       refused = λ n e due.
           let zero = g .refused (λ z. due (sym e ∙ number ∙ z)) in
           (g .answer ∙ ap numberAlone (sym number ∙ e), zero .0, zero .1);
@@ -383,6 +384,7 @@ answers-or-first-refusal =
           ring-parts keyLength ring header (aeadLens ad nonce) input output scratch (row 10 (eqb nonce 0) ∷ [])
           (ring-comes-from-c keyLength ring header input output scratch ad nonce);
       findingDearest = λ h k least outcome places blocks g. by-plan h k least g;
+      findingDearestFromC = λ h k least places given g. by-plan h k least g;
       makingHead = λ key bytes lens. by-head _ _ _ _ refl (header-work key bytes lens);
       extendingHead = λ h bytes lens. by-head _ _ _ _ (rest-ordered h lens (length bytes)) (rest-work h bytes lens);
       beginningSealer = λ key bytes lens. by-begin _ _ _ (headOf key (strings bytes lens)) 1 zeros refl (header-work key bytes lens);

@@ -5,7 +5,7 @@ use mathlib.Core.Bool.{Bool, true, false, not, cond, _&&_}
 use mathlib.Core.List.{List, [], _∷_, _++_}
 use Prim.Native.Nat.{ℕ, zero, suc, _+_, _-_, _*_, _/_, _%_}
 use lib.Dec.{ltb, eqb}
-use lib.ListN.{length, replicate}
+use lib.ListN.{length, drop, replicate}
 use Rattle.octets.specs.Octets.{put}
 use Rattle.aes.specs.Aes.{isWidth}
 use Rattle.cmac.specs.Cmac.{zeros}
@@ -23,7 +23,7 @@ use Rattle.head.specs.Head.{zeroHead, headOf, extended, MakeResult, madeHead, m
 use Rattle.stream.specs.declared.Stream.{Stream}
 use Rattle.stream.specs.State.{ended, start, added, tagOfState, tagOfStateWork, streamedAt}
 use Rattle.stream.specs.Steps.{StepResult, doneStep, refusedStep, tagRows, beginSealer, beginOpener, beginSealerFrom, beginOpenerFrom, addRows, addStep, turnRows, turned, turnStep, writeRows, wrote, writeStep, closeRows, closeStep, feedRows, deciphered, feedStep, finishTable, forgedStep, finishStep}
-use Rattle.kinphlor.specs.Interface.{aeadLens, packed, sealFromC, openFromC, packedRing, openRingFromC, numberIn}
+use Rattle.kinphlor.specs.Interface.{aeadLens, packed, sealFromC, openFromC, packedRing, openRingFromC, GivesDearestFromC}
 use Rattle.demands.specs.Model.{chained}
 
 -- document 01's order of refusals, with document 02's 11 straight after 1; 12 is alone in its table, so its place says nothing
@@ -123,18 +123,19 @@ module _ (keyLength : ℕ) (ring bytes lens input output scratch : List ℕ) whe
 
 -- ---- the dearest header list
 
--- the call by its table: a refusal has list and blocks zero
+-- the call by its table: the places past k are zero, and with a refusal all of them and the blocks
 pub record FirstDearest (h k least : ℕ) (outcome : Outcome) (places : List ℕ) (blocks : ℕ) : Type 0 where
   pub ordered : keeps order (planRows h k least) ≡ true
   pub first : FirstDue (planRows h k least) (outcome .number)
   pub done : outcome .number ≡ 0 → (outcome ≡ success 0 0) × Dearest h k least places blocks
+  pub past : outcome .number ≡ 0 → drop k places ≡ replicate (126 - k) 0
   pub refused : (n : ℕ) → outcome .number ≡ n → (n ≡ 0 → ⊥) → (outcome ≡ numberAlone n) × (places ≡ replicate 126 0) × (blocks ≡ 0)
 
 -- ---- the number that C gets
 
 -- its parts as the header reads them: the answer from bit 32 on, the slot in the four bits below, the length in the 28 below these
 pub record Parts (given number slot count : ℕ) : Type 0 where
-  pub high : numberIn given ≡ number
+  pub high : given / 4294967296 ≡ number
   pub middle : given / 268435456 % 16 ≡ slot
   pub low : given % 268435456 ≡ count
 
@@ -197,6 +198,8 @@ pub record First : Type 0 where
       Parts (packedRing (r .slot) (r .call .outcome)) (r .call .outcome .number) (r .slot) (r .call .outcome .count)
   pub findingDearest : (h k least : ℕ) (outcome : Outcome) (places : List ℕ) (blocks : ℕ) → GivesDearest h k least outcome places blocks
       → FirstDearest h k least outcome places blocks
+  pub findingDearestFromC : (h k least : ℕ) (places : List ℕ) (given : ℕ) → GivesDearestFromC h k least places given
+      → FirstDearest h k least (numberAlone (given / 4294967296)) places (given % 4294967296)
   pub makingHead : (key bytes lens : List ℕ)
       → FirstHead (headerRows (length key) lens (length bytes)) (makeHead key bytes lens) (2 + blocksOfAll lens) (headOf key (strings bytes lens))
   pub extendingHead : (h : Head) (bytes lens : List ℕ)
