@@ -163,7 +163,8 @@ static inline const char *kinphlor_text(uint32_t number) {
     case KINPHLOR_STATE: return "the stream state or the head is not one for this call";
     case KINPHLOR_EMPTY_NONCE: return "the nonce is empty";
     case KINPHLOR_RING_LENGTH: return "the ring is not one to four whole keys";
-    case KINPHLOR_HEADER_PLAN: return "a figure is out of bounds: 1 to 126 strings, a least length of 0 or 1, strings times least to 1,048,576 bytes";
+    case KINPHLOR_HEADER_PLAN:
+        return "out of bounds: 1 to 126 strings, a least length of 0 or 1, strings times least to 1,048,576 bytes";
     default: return "unknown answer";
     }
 }
