@@ -11,8 +11,8 @@ use Rattle.header.specs.Blocks.{blocksOfAll}
 use Rattle.answers.specs.Answer.{Outcome, success, first}
 use Rattle.dearest.specs.Dearest.{isPlan, planRows, Dearest, GivesDearest}
 use Rattle.dearest.proofs.Laws.{Planned, plan-by, no-plan, planned-row, found, blocks-peak}
-use Rattle.siv.specs.Calls.{isKeyLength, sealCall, openCall}
-use Rattle.siv.specs.Work.{workBehind}
+use Rattle.whole.specs.Calls.{isKeyLength, sealCall, openCall}
+use Rattle.whole.specs.Work.{workBehind}
 use Rattle.demands.specs.Dearest.{AsReported, TwelveDue, DearestHeader}
 use Rattle.demands.specs.Whole.{Admits}
 use Rattle.demands.specs.Work.{Reported}

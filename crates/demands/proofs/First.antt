@@ -19,13 +19,13 @@ use Rattle.answers.specs.declared.Refusal.the-variants.{KeyLength, HeaderCount,
 use Rattle.answers.specs.Answer.{Outcome, Row, row, first, success, numberAlone, forged, numberOf, outcomeOf}
 use Rattle.answers.proofs.Laws.{lacks, first-not, first-pass, first-stop, first-none, refusal-number, outcome-work, none-where}
 use Rattle.dearest.specs.Dearest.{planRows, GivesDearest}
-use Rattle.siv.specs.Calls.{CallResult, refusedCall, isKeyLength, headerRows, openRows, sealTable, sealNumber, sealCall, openTable, openNumber, openCall}
-use Rattle.siv.specs.Ring.{slotCount, slotKey, ringRows, RingResult, openSlot, opensAt}
-use Rattle.siv.specs.Siv.{genuine, genuineWork}
-use Rattle.siv.specs.Work.{blockWork}
-use Rattle.siv.proofs.Laws.{header-admits, seal-admits, seal-count, openJudged, open-admits, open-passed, open-forged, open-unread, open-count}
-use Rattle.siv.proofs.Lengths.{sealed-lengths, genuine-lengths}
-use Rattle.siv.proofs.Ring.{RingWhole, ring-admits, slot-keyed, Chosen, chosen-within, chosen-closed, chosen-same, Comes, goes, stops, ring-comes, ring-idle, ring-work}
+use Rattle.whole.specs.Calls.{CallResult, refusedCall, isKeyLength, headerRows, openRows, sealTable, sealNumber, sealCall, openTable, openNumber, openCall}
+use Rattle.whole.specs.Ring.{slotCount, slotKey, ringRows, RingResult, openSlot, opensAt}
+use Rattle.whole.specs.Siv.{genuine, genuineWork}
+use Rattle.whole.specs.Work.{blockWork}
+use Rattle.whole.proofs.Laws.{header-admits, seal-admits, seal-count, openJudged, open-admits, open-passed, open-forged, open-unread, open-count}
+use Rattle.whole.proofs.Lengths.{sealed-lengths, genuine-lengths}
+use Rattle.whole.proofs.Ring.{RingWhole, ring-admits, slot-keyed, Chosen, chosen-within, chosen-closed, chosen-same, Comes, goes, stops, ring-comes, ring-idle, ring-work}
 use Rattle.head.specs.declared.Head.{Head}
 use Rattle.head.specs.Head.{zeroHead, headOf, headOfWork, extended, extendedWork, fitsHead, restRows, MakeResult, madeHead, settleHead, makeHead, extendHead}
 use Rattle.head.proofs.Laws.{head-lengths, extended-lengths, rest-admits}

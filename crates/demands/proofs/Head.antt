@@ -16,8 +16,8 @@ use Rattle.header.specs.Blocks.{blocksOfAll}
 use Rattle.header.proofs.Laws.{total-append, total-take, strings-append, length-strings, strings-within, blocks-append}
 use Rattle.answers.specs.Answer.{Row, first}
 use Rattle.answers.proofs.Laws.{first-append}
-use Rattle.siv.specs.Calls.{headerRows}
-use Rattle.siv.proofs.Laws.{halves}
+use Rattle.whole.specs.Calls.{headerRows}
+use Rattle.whole.proofs.Laws.{halves}
 use Rattle.head.specs.declared.Head.{Head}
 use Rattle.head.specs.Head.{headOf, headOfWork, extended, extendedWork, fitsHead, restRows, MakeResult, madeHead, settleHead, makeHead, extendHead}
 use Rattle.head.proofs.Laws.{head-lengths, extended-lengths, extended-head}

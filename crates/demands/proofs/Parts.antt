@@ -8,9 +8,9 @@ use native.Mathlib.Omega.{arith}
 use lib.ListN.{length}
 use Rattle.answers.specs.Answer.{Row, first}
 use Rattle.answers.proofs.Laws.{first-none}
-use Rattle.siv.specs.Calls.{CallResult, limit}
-use Rattle.siv.specs.Ring.{ringRows, RingResult}
-use Rattle.siv.proofs.Ring.{Comes, comes-small}
+use Rattle.whole.specs.Calls.{CallResult, limit}
+use Rattle.whole.specs.Ring.{ringRows, RingResult}
+use Rattle.whole.proofs.Ring.{Comes, comes-small}
 use Rattle.kinphlor.specs.Interface.{packed, emptyNonce, fromC, packedRing}
 use Rattle.demands.specs.First.{Parts}
 

@@ -24,10 +24,10 @@ use Rattle.s2v.specs.S2v.{tailLength, headerResult, tagFrom, s2v}
 use Rattle.s2v.proofs.Laws.{tail-short, tail-long, Tail, tail, tag-tail, length-headerResult}
 use Rattle.ctr.specs.Counter.{clear, plus, xorStream, begunBlock, pieceWork, xorPiece, keptAfter}
 use Rattle.ctr.proofs.Laws.{stream-work, xorStream-append, xorPiece-own, keptAfter-own}
-use Rattle.siv.specs.Calls.{isKeyLength, limit}
-use Rattle.siv.specs.Siv.{macKey, ctrKey, tagOf, streamed}
-use Rattle.siv.proofs.Laws.{KeyHalves, halves, aes-cipher, length-streamed}
-use Rattle.siv.proofs.Lengths.{tag-lengths}
+use Rattle.whole.specs.Calls.{isKeyLength, limit}
+use Rattle.whole.specs.Siv.{macKey, ctrKey, tagOf, streamed}
+use Rattle.whole.proofs.Laws.{KeyHalves, halves, aes-cipher, length-streamed}
+use Rattle.whole.proofs.Lengths.{tag-lengths}
 use Rattle.head.specs.Head.{headOf}
 use Rattle.stream.specs.declared.Stream.{Stream}
 use Rattle.stream.specs.State.{start, allZero, writtenLimit, keptFits, fits, usedTail, tailOf, passedBlocks, stateWith, added, addedWork, tagOfState, tagOfStateWork, streamedAt, keptAt}

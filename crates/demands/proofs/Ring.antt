@@ -13,10 +13,10 @@ use lib.Seq.{take-length}
 use borrow.Author.Tests.{eqb-true, eq-eqb, ne-eqb}
 use Rattle.header.specs.Header.{total, strings}
 use Rattle.answers.specs.Answer.{Outcome, first}
-use Rattle.siv.specs.Calls.{isKeyLength, limit, scratchNeed, openNumber, openCall}
-use Rattle.siv.specs.Ring.{isRing, slotCount, slotKey, ringRows, triedWork, RingResult, openSlot, opensAt, workAt, openSlotWith, openRing}
-use Rattle.siv.specs.Work.{blockWork}
-use Rattle.siv.proofs.Ring.{key-length-some, whole-ring, slot-keyed, Chosen, found, none, chosen-within, Comes, goes, stops, ring-comes, ring-work}
+use Rattle.whole.specs.Calls.{isKeyLength, limit, scratchNeed, openNumber, openCall}
+use Rattle.whole.specs.Ring.{isRing, slotCount, slotKey, ringRows, triedWork, RingResult, openSlot, opensAt, workAt, openSlotWith, openRing}
+use Rattle.whole.specs.Work.{blockWork}
+use Rattle.whole.proofs.Ring.{key-length-some, whole-ring, slot-keyed, Chosen, found, none, chosen-within, Comes, goes, stops, ring-comes, ring-work}
 use Rattle.kinphlor.specs.Interface.{aeadLens, emptyNonce, fromC, openFromC, emptyNonceRing, openRingFromC}
 use Rattle.demands.specs.Ring.{IsRing, Opens, BySlot, SealsUnder, ThirdRing, Ring}
 use Rattle.demands.specs.Whole.{Admits, ThirdWhole}

@@ -14,8 +14,8 @@ use Rattle.aes.proofs.Widths.{length-cipher}
 use Rattle.cmac.specs.Cmac.{cmacFrom}
 use Rattle.s2v.specs.S2v.{tagFrom, tag, s2v}
 use Rattle.ctr.proofs.Laws.{xorStream-undo}
-use Rattle.siv.proofs.Laws.{length-streamed}
-use Rattle.siv.specs.Siv.{ctrKey, tagOf, streamed, sealed, opened, genuine}
+use Rattle.whole.proofs.Laws.{length-streamed}
+use Rattle.whole.specs.Siv.{ctrKey, tagOf, streamed, sealed, opened, genuine}
 
 pub length-tag : (key : List ℕ) (ss : List (List ℕ)) (p : List ℕ) → length (tagOf key ss p) ≡ 16
 unfolding tagOf s2v tag tagFrom cmacFrom aes

@@ -9,9 +9,9 @@ use native.Mathlib.Omega.{arith}
 use lib.Dec.{eqb}
 use lib.ListN.{length}
 use Rattle.answers.specs.Answer.{row, first}
-use Rattle.siv.specs.Calls.{isKeyLength}
-use Rattle.siv.specs.Ring.{isRing, ringRows, openRing}
-use Rattle.siv.proofs.Ring.{Chosen, found, none, Comes, cameTo, comes}
+use Rattle.whole.specs.Calls.{isKeyLength}
+use Rattle.whole.specs.Ring.{isRing, ringRows, openRing}
+use Rattle.whole.proofs.Ring.{Chosen, found, none, Comes, cameTo, comes}
 use Rattle.kinphlor.specs.Interface.{aeadLens, emptyNonceRing, openRingFromC}
 use Rattle.demands.specs.First.{noSlot}
 

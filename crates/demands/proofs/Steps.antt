@@ -18,9 +18,9 @@ use Rattle.header.specs.Blocks.{sixteenths, blocksOf}
 use Rattle.ctr.specs.Counter.{xorStream, begunBlock, pieceWork}
 use Rattle.answers.specs.Answer.{first, success, numberAlone, forged}
 use Rattle.answers.proofs.Laws.{none-where}
-use Rattle.siv.specs.Calls.{limit, scratchNeed}
-use Rattle.siv.specs.Siv.{ctrKey, tagOf, streamed, opened, genuine}
-use Rattle.siv.proofs.Laws.{by-tag, length-streamed, put-over}
+use Rattle.whole.specs.Calls.{limit, scratchNeed}
+use Rattle.whole.specs.Siv.{ctrKey, tagOf, streamed, opened, genuine}
+use Rattle.whole.proofs.Laws.{by-tag, length-streamed, put-over}
 use Rattle.stream.specs.declared.Stream.{Stream}
 use Rattle.stream.specs.State.{ended, allZero, keptFits, fits, added, addedWork, tagOfState, tagOfStateWork, streamedAt, streamedWith}
 use Rattle.stream.specs.Steps.{StepResult, doneStep, refusedStep, settle, feedRows, turned, wrote, deciphered, addStep, turnStep, writeStep, closeStep, feedStep, forgedStep, finishStep}

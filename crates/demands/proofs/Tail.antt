@@ -11,8 +11,8 @@ use borrow.Author.Tests.{eq-eqb, ne-eqb}
 use Rattle.aes.specs.Aes.{isWidth}
 use Rattle.s2v.specs.S2v.{tailLength}
 use Rattle.answers.specs.Answer.{Outcome, Row}
-use Rattle.siv.specs.Calls.{limit}
-use Rattle.siv.proofs.Laws.{length-streamed}
+use Rattle.whole.specs.Calls.{limit}
+use Rattle.whole.proofs.Laws.{length-streamed}
 use Rattle.head.specs.declared.Head.{Head}
 use Rattle.stream.specs.declared.Stream.{Stream}
 use Rattle.stream.specs.State.{ended, allZero, writtenLimit, keptFits, fits, added, addedWork, tagOfState, tagOfStateWork, streamedAt, keptAt}

@@ -18,10 +18,10 @@ use Rattle.header.specs.Blocks.{blocksOfAll}
 use Rattle.ctr.specs.Counter.{xorStream}
 use Rattle.answers.specs.Answer.{Outcome, success, numberAlone}
 use Rattle.answers.proofs.Laws.{first-pass}
-use Rattle.siv.specs.Calls.{limit, scratchNeed, headerRows, openCall}
-use Rattle.siv.specs.Siv.{ctrKey, tagOf, streamed, sealed, opened, genuine}
-use Rattle.siv.specs.Work.{blockWork}
-use Rattle.siv.proofs.Laws.{openJudged, length-streamed, length-opened}
+use Rattle.whole.specs.Calls.{limit, scratchNeed, headerRows, openCall}
+use Rattle.whole.specs.Siv.{ctrKey, tagOf, streamed, sealed, opened, genuine}
+use Rattle.whole.specs.Work.{blockWork}
+use Rattle.whole.proofs.Laws.{openJudged, length-streamed, length-opened}
 use Rattle.head.specs.Head.{headOf}
 use Rattle.head.proofs.Laws.{head-lengths}
 use Rattle.stream.specs.declared.Stream.{Stream}

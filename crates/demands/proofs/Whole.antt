@@ -11,11 +11,11 @@ use Rattle.octets.specs.Octets.{put}
 use Rattle.octets.proofs.Strings.{take-put}
 use Rattle.header.specs.Header.{total, strings}
 use Rattle.answers.specs.Answer.{Outcome, success, forged}
-use Rattle.siv.specs.Calls.{limit, scratchNeed, sealNumber, sealCall, openNumber, openCall}
-use Rattle.siv.specs.Siv.{sealed, opened, genuine, genuineWork}
-use Rattle.siv.specs.Work.{blockWork}
-use Rattle.siv.proofs.Laws.{openJudged, open-admits, by-tag, open-passed, length-opened}
-use Rattle.siv.proofs.Lengths.{sealed-lengths, genuine-lengths}
+use Rattle.whole.specs.Calls.{limit, scratchNeed, sealNumber, sealCall, openNumber, openCall}
+use Rattle.whole.specs.Siv.{sealed, opened, genuine, genuineWork}
+use Rattle.whole.specs.Work.{blockWork}
+use Rattle.whole.proofs.Laws.{openJudged, open-admits, by-tag, open-passed, length-opened}
+use Rattle.whole.proofs.Lengths.{sealed-lengths, genuine-lengths}
 use Rattle.demands.specs.Whole.{Admits, Gives, Accepts, Second, SealsTo, ThirdWhole}
 use Rattle.demands.proofs.Siv.{length-sealed, opened-sealed, genuine-sealed, sealed-opened}
 

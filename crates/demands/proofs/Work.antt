@@ -22,12 +22,12 @@ use Rattle.ctr.specs.Counter.{xorStream, noBlock, begunBlock, leftOver, pieceWo
 use Rattle.ctr.proofs.Laws.{xorPiece-within, xorPiece-beyond, keptAfter-within, keptAfter-beyond}
 use Rattle.answers.specs.Answer.{Outcome, Row, row, first, success, numberAlone}
 use Rattle.answers.proofs.Laws.{lacks, first-not, first-none, not-due}
-use Rattle.siv.specs.Calls.{CallResult, refusedCall, isKeyLength, limit, sealTable, sealNumber, sealCall, openNumber, openCall}
-use Rattle.siv.specs.Ring.{ringRows, slotCount, slotKey, RingResult}
-use Rattle.siv.specs.Siv.{ctrKey}
-use Rattle.siv.specs.Work.{blockWork, plannedWork}
-use Rattle.siv.proofs.Laws.{seal-admits, openJudged, open-admits, open-passed, open-forged, length-streamed}
-use Rattle.siv.proofs.Ring.{Comes, goes, stops, ring-comes}
+use Rattle.whole.specs.Calls.{CallResult, refusedCall, isKeyLength, limit, sealTable, sealNumber, sealCall, openNumber, openCall}
+use Rattle.whole.specs.Ring.{ringRows, slotCount, slotKey, RingResult}
+use Rattle.whole.specs.Siv.{ctrKey}
+use Rattle.whole.specs.Work.{blockWork, plannedWork}
+use Rattle.whole.proofs.Laws.{seal-admits, openJudged, open-admits, open-passed, open-forged, length-streamed}
+use Rattle.whole.proofs.Ring.{Comes, goes, stops, ring-comes}
 use Rattle.stream.specs.declared.Stream.{Stream}
 use Rattle.stream.specs.State.{ended, allZero, writtenLimit, streamPlace, keptFits, fits, added, addedWork, tagOfState, tagOfStateWork, streamedAt, keptAt, streamedWith}
 use Rattle.stream.specs.Steps.{doneStep, refusedStep, settle, addStep, turned, turnStep, wrote, writeStep, closeStep, deciphered, feedStep, finishTable, forgedStep, finishStep}

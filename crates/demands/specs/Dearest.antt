@@ -8,9 +8,9 @@ use lib.ListN.{length, take}
 use Rattle.header.specs.Header.{strings}
 use Rattle.answers.specs.Answer.{Outcome, first}
 use Rattle.dearest.specs.Dearest.{planRows, Composes, Dearest, GivesDearest}
-use Rattle.siv.specs.Calls.{isKeyLength, limit, scratchNeed, sealCall, openCall}
-use Rattle.siv.specs.Siv.{sealed}
-use Rattle.siv.specs.Work.{workBehind}
+use Rattle.whole.specs.Calls.{isKeyLength, limit, scratchNeed, sealCall, openCall}
+use Rattle.whole.specs.Siv.{sealed}
+use Rattle.whole.specs.Work.{workBehind}
 use Rattle.demands.specs.Whole.{Admits, Gives}
 use Rattle.demands.specs.Work.{Reported}
 

@@ -14,10 +14,10 @@ use Rattle.header.specs.Blocks.{sixteenths, blocksOfAll}
 use Rattle.answers.specs.declared.Answer.{Answer}
 use Rattle.answers.specs.Answer.{Outcome, success, numberAlone, forged, Row, row, outcomeOf}
 use Rattle.dearest.specs.Dearest.{planRows, Dearest, GivesDearest}
-use Rattle.siv.specs.Calls.{CallResult, scratchNeed, headerRows, openRows, sealTable, sealCall, openTable, openCall}
-use Rattle.siv.specs.Ring.{slotCount, slotKey, ringRows, RingResult, openRing}
-use Rattle.siv.specs.Siv.{sealed, opened, genuine}
-use Rattle.siv.specs.Work.{blockWork}
+use Rattle.whole.specs.Calls.{CallResult, scratchNeed, headerRows, openRows, sealTable, sealCall, openTable, openCall}
+use Rattle.whole.specs.Ring.{slotCount, slotKey, ringRows, RingResult, openRing}
+use Rattle.whole.specs.Siv.{sealed, opened, genuine}
+use Rattle.whole.specs.Work.{blockWork}
 use Rattle.head.specs.declared.Head.{Head}
 use Rattle.head.specs.Head.{zeroHead, headOf, extended, MakeResult, madeHead, makeHead, extendHead}
 use Rattle.stream.specs.declared.Stream.{Stream}

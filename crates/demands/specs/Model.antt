@@ -9,8 +9,8 @@ use Rattle.octets.specs.Octets.{put}
 use Rattle.header.specs.Header.{strings}
 use Rattle.header.specs.Blocks.{sixteenths, blocksOf}
 use Rattle.answers.specs.Answer.{Row, row, first, numberAlone}
-use Rattle.siv.specs.Calls.{limit, scratchNeed, openNumber}
-use Rattle.siv.specs.Siv.{tagOf, streamed, opened}
+use Rattle.whole.specs.Calls.{limit, scratchNeed, openNumber}
+use Rattle.whole.specs.Siv.{tagOf, streamed, opened}
 use Rattle.demands.specs.Run.{Begin, sealer, opener, Call, add, turn, write, close, feed, finish, Entry}
 
 -- what the model keeps: a stage, A, the bytes added or fed, and W, those written

@@ -8,9 +8,9 @@ use lib.ListN.{length, replicate}
 use Rattle.octets.specs.Octets.{put}
 use Rattle.header.specs.Header.{total}
 use Rattle.answers.specs.Answer.{forged}
-use Rattle.siv.specs.Calls.{isKeyLength, limit, scratchNeed, openCall}
-use Rattle.siv.specs.Ring.{slotKey, triedWork, RingResult, openSlot, opensAt, workAt, openSlotWith, openRing}
-use Rattle.siv.specs.Work.{blockWork}
+use Rattle.whole.specs.Calls.{isKeyLength, limit, scratchNeed, openCall}
+use Rattle.whole.specs.Ring.{slotKey, triedWork, RingResult, openSlot, opensAt, workAt, openSlotWith, openRing}
+use Rattle.whole.specs.Work.{blockWork}
 use Rattle.kinphlor.specs.Interface.{aeadLens, openFromC, openRingFromC}
 use Rattle.demands.specs.Whole.{Gives, Accepts, SealsTo}
 

@@ -11,7 +11,7 @@ use Rattle.aes.specs.Aes.{isWidth}
 use Rattle.s2v.specs.S2v.{tailLength}
 use Rattle.ctr.specs.Counter.{pieceWork}
 use Rattle.answers.specs.Answer.{row, first}
-use Rattle.siv.specs.Calls.{limit}
+use Rattle.whole.specs.Calls.{limit}
 use Rattle.head.specs.declared.Head.{Head}
 use Rattle.stream.specs.declared.Stream.{Stream}
 use Rattle.stream.specs.State.{ended, allZero, writtenLimit, keptFits, stateWith, added, addedWork, tagOfState, tagOfStateWork, streamedAt}

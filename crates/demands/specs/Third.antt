@@ -10,8 +10,8 @@ use Rattle.octets.specs.Octets.{put}
 use Rattle.header.specs.Header.{strings}
 use Rattle.header.specs.Blocks.{blocksOfAll}
 use Rattle.answers.specs.Answer.{success}
-use Rattle.siv.specs.Calls.{scratchNeed, openCall}
-use Rattle.siv.specs.Siv.{streamed, sealed}
+use Rattle.whole.specs.Calls.{scratchNeed, openCall}
+use Rattle.whole.specs.Siv.{streamed, sealed}
 use Rattle.stream.specs.State.{ended}
 use Rattle.stream.specs.Steps.{StepResult, finishStep}
 use Rattle.demands.specs.Model.{ModelState, fresh, ModelRun, sealTag, shown, modelRun}

@@ -8,9 +8,9 @@ use lib.ListN.{length, replicate}
 use Rattle.octets.specs.Octets.{put}
 use Rattle.header.specs.Header.{total, strings}
 use Rattle.answers.specs.Answer.{success, forged}
-use Rattle.siv.specs.Calls.{CallResult, isKeyLength, limit, scratchNeed, sealCall, openCall}
-use Rattle.siv.specs.Siv.{sealed}
-use Rattle.siv.specs.Work.{blockWork}
+use Rattle.whole.specs.Calls.{CallResult, isKeyLength, limit, scratchNeed, sealCall, openCall}
+use Rattle.whole.specs.Siv.{sealed}
+use Rattle.whole.specs.Work.{blockWork}
 
 -- a key and a header list that document 01 admits
 pub record Admits (key bytes lens : List ℕ) : Type 0 where

@@ -12,10 +12,10 @@ use Rattle.aes.specs.Cipher.{cipher}
 use Rattle.cmac.specs.Cmac.{zeros}
 use Rattle.header.specs.Blocks.{blocksOf}
 use Rattle.ctr.specs.Counter.{xorStream, begunBlock, leftOver}
-use Rattle.siv.specs.Calls.{CallResult, sealCall, openCall}
-use Rattle.siv.specs.Ring.{slotCount, RingResult, openRing}
-use Rattle.siv.specs.Siv.{ctrKey}
-use Rattle.siv.specs.Work.{blockWork, plannedWork}
+use Rattle.whole.specs.Calls.{CallResult, sealCall, openCall}
+use Rattle.whole.specs.Ring.{slotCount, RingResult, openRing}
+use Rattle.whole.specs.Siv.{ctrKey}
+use Rattle.whole.specs.Work.{blockWork, plannedWork}
 use Rattle.stream.specs.declared.Stream.{Stream}
 use Rattle.stream.specs.State.{allZero, streamPlace, tagOfStateWork, streamedAt, keptAt, streamedWith}
 use Rattle.stream.specs.Steps.{refusedStep}

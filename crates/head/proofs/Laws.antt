@@ -23,8 +23,8 @@ use Rattle.s2v.proofs.Laws.{absorb-append}
 use Rattle.answers.specs.declared.Answer.{Answer}
 use Rattle.answers.specs.Answer.{Outcome, first, outcomeOf, numberAlone}
 use Rattle.answers.proofs.Laws.{not-due}
-use Rattle.siv.specs.Siv.{macKey, ctrKey}
-use Rattle.siv.proofs.Lengths.{absorb-lengths, header-lengths}
+use Rattle.whole.specs.Siv.{macKey, ctrKey}
+use Rattle.whole.proofs.Lengths.{absorb-lengths, header-lengths}
 use Rattle.head.specs.declared.Head.{Head}
 use Rattle.head.specs.declared.Made.{Made}
 use Rattle.head.specs.Head.{zeroHead, headOf, headOfWork, extended, extendedWork, fitsHead, restRows, MakeResult, DidMake, madeHead, settleHead}

@@ -13,8 +13,8 @@ use Rattle.cmac.specs.Cmac.{zeros, subkeys, zeroCipher, zeroCipherWork}
 use Rattle.header.specs.Header.{total, strings}
 use Rattle.s2v.specs.S2v.{absorbStrings, absorbWork, headerResult, headerWork}
 use Rattle.answers.specs.Answer.{Outcome, success, numberAlone, outcomeOf, Row, row, first}
-use Rattle.siv.specs.Calls.{headerRows}
-use Rattle.siv.specs.Siv.{macKey, ctrKey}
+use Rattle.whole.specs.Calls.{headerRows}
+use Rattle.whole.specs.Siv.{macKey, ctrKey}
 use Rattle.head.specs.declared.Head.{Head}
 use Rattle.head.specs.declared.Made.{Made}
 

@@ -2,7 +2,7 @@
 ghost use Prim.Native.Nat.{_+_, _≤_};
 ghost use lib.ListN.{length};
 ghost use Rattle.header.specs.Header.{total, strings};
-ghost use Rattle.siv.specs.Calls.{Usable};
+ghost use Rattle.whole.specs.Calls.{Usable};
 ghost use Rattle.head.specs.Head.{headOf, headOfWork, extended, extendedWork, DidMake, madeHead};
 use crate::Head;
 use crate::Made;

@@ -62,7 +62,7 @@ impl Head {
     pub fn make(key: &[u8], header: &[u8], lens: &[u32]) -> Made
         ensures { λ r. ⌜ DidMake (makeHead (now (key .entry)) (now (header .entry)) (now (lens .entry))) r ⌝ }
     {
-        let answer = siv::judge::judge_header(key.len(), lens, header.len());
+        let answer = admission::judge_header(key.len(), lens, header.len());
         if let Answer::Refused(_) = answer {
             return refused(answer);
         }

@@ -11,10 +11,10 @@ use Rattle.answers.specs.Answer.{Outcome, outcomeOf, numberAlone, first}
 use Rattle.answers.proofs.Laws.{outcome-with}
 use Rattle.dearest.specs.Dearest.{planRows, GivesDearest}
 use Rattle.dearest.proofs.Laws.{number-small, blocks-small}
-use Rattle.siv.specs.declared.Report.{Report}
-use Rattle.siv.specs.declared.RingAnswer.{RingAnswer}
-use Rattle.siv.specs.Calls.{CallResult, DidCall}
-use Rattle.siv.specs.Ring.{DidRing, openRing}
+use Rattle.whole.specs.declared.Report.{Report}
+use Rattle.whole.specs.declared.RingAnswer.{RingAnswer}
+use Rattle.whole.specs.Calls.{CallResult, DidCall}
+use Rattle.whole.specs.Ring.{DidRing, openRing}
 use Rattle.kinphlor.specs.Interface.{aeadLens, packed, emptyNonce, fromC, DidPacked, packedRing, emptyNonceRing, openRingFromC, DidPackedRing, numberIn, blocksIn, GivesDearestFromC}
 
 module _ (nonce : ℕ) (key output scratch : List ℕ) (call : CallResult) where

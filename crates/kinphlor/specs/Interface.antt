@@ -9,9 +9,9 @@ use lib.ListN.{length}
 use denote.Ref.{now}
 use Rattle.answers.specs.Answer.{Outcome, numberAlone, first}
 use Rattle.dearest.specs.Dearest.{GivesDearest}
-use Rattle.siv.specs.Calls.{isKeyLength, CallResult, refusedCall, sealCall, openCall, Lent}
-use Rattle.siv.specs.Ring.{ringRows, RingResult, refusedRing, openRing}
-use Rattle.siv.specs.Work.{plannedWork}
+use Rattle.whole.specs.Calls.{isKeyLength, CallResult, refusedCall, sealCall, openCall, Lent}
+use Rattle.whole.specs.Ring.{ringRows, RingResult, refusedRing, openRing}
+use Rattle.whole.specs.Work.{plannedWork}
 
 -- the header list: associated data, then nonce
 abbrev pub aeadLens : ℕ → ℕ → List ℕ

@@ -2,12 +2,12 @@
 ghost use mathlib.Core.Path.{_≡_};
 ghost use Prim.Native.Nat.{_≤_};
 ghost use Rattle.answers.specs.Answer.{outcomeOf};
-ghost use Rattle.siv.specs.Calls.{limit};
+ghost use Rattle.whole.specs.Calls.{limit};
 ghost use Rattle.kinphlor.specs.Interface.{packed, emptyNonce, sealFromC, openFromC, PerformsFromC};
 ghost use Rattle.kinphlor.specs.Interface.{packedRing, emptyNonceRing, PerformsRingFromC, plannedFromC, GivesDearestFromC};
 use answers::Answer;
 use answers::Refusal;
-use siv::RingAnswer;
+use whole::RingAnswer;
 
 // An answer as one number: its number times 2 to the power 32, plus its length.
 pub fn pack(a: Answer) -> u64
@@ -23,7 +23,7 @@ pub fn pack(a: Answer) -> u64
 fn empty_nonce(key_len: usize, nonce_len: u32) -> bool
     ensures { λ r. ⌜ r ≡ emptyNonce «key_len» «nonce_len» ⌝ }
 {
-    if siv::is_key_len(key_len) {
+    if admission::is_key_len(key_len) {
         return nonce_len == 0;
     }
     false
@@ -86,7 +86,7 @@ fn pack_ring(a: RingAnswer) -> u64
 fn empty_nonce_ring(key_len: usize, ring_len: usize, nonce_len: u32) -> bool
     ensures { λ r. ⌜ r ≡ emptyNonceRing «key_len» «ring_len» «nonce_len» ⌝ }
 {
-    if let Answer::Refused(_) = siv::judge::judge_ring(key_len, ring_len) {
+    if let Answer::Refused(_) = admission::judge_ring(key_len, ring_len) {
         return false;
     }
     nonce_len == 0
@@ -110,7 +110,7 @@ pub extern "C" fn kinphlor_open_ring(
         return pack(Answer::Refused(Refusal::EmptyNonce));
     }
     let lens = [ad_len, nonce_len];
-    pack_ring(siv::open_ring(key_len, ring, header, &lens, input, output, scratch))
+    pack_ring(ring::open_ring(key_len, ring, header, &lens, input, output, scratch))
 }
 
 // How many blocks go through the cipher to seal n bytes, or to open what that gives, with associated data and nonce of these lengths: for planning, from lengths alone. 0 for an empty nonce and for n over the limit.
@@ -122,7 +122,7 @@ pub extern "C" fn kinphlor_planned_work(ad_len: u32, nonce_len: u32, n: usize) -
         return 0;
     }
     let lens = [ad_len, nonce_len];
-    siv::planned_work(&lens, n) as u64
+    admission::planned_work(&lens, n) as u64
 }
 
 // The dearest header list: of all lists of count lengths that sum to header_len, none under the least, one whose strings have the most blocks, to the lent places. The number is the answer's times 2 to the power 32, plus these blocks; after 12 places and blocks are zero.

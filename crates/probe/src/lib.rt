@@ -9,9 +9,9 @@ use answers::Answer;
 use answers::Refusal;
 use head::Head;
 use head::Made;
-use siv::Report;
 use stream::Step;
 use stream::Stream;
+use whole::Report;
 
 // What a call answers where a state's buffer has not state::LEN bytes, or a head's not heads::LEN: no number of document 01's.
 const NO_BUFFER: u64 = 0xffffffff00000000;
@@ -101,7 +101,7 @@ pub extern "C" fn probe_open_ring(
     slot: &mut [u8],
     work: &mut [u8],
 ) -> u64 {
-    let opened = siv::open_ring(key_len, ring, header, lens, input, output, scratch);
+    let opened = ring::open_ring(key_len, ring, header, lens, input, output, scratch);
     let answer = opened.answer;
     give_slot(opened.slot, slot);
     give_work(opened.work, work);
@@ -111,7 +111,7 @@ pub extern "C" fn probe_open_ring(
 // What a whole call with header strings of these lengths and n bytes of plaintext will report as its work.
 #[no_mangle]
 pub extern "C" fn probe_planned_work(lens: &[u32], n: usize) -> u64 {
-    siv::planned_work(lens, n) as u64
+    admission::planned_work(lens, n) as u64
 }
 
 #[no_mangle]

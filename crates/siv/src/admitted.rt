@@ -1,8 +1,8 @@
 // What is done once a call is admitted.
 ghost use mathlib.Core.Path.{_≡_};
 ghost use mathlib.Core.Bool.{true, cond};
-ghost use Prim.Native.Nat.{ℕ, _+_, _-_, _*_, _≤_, _<_};
-ghost use lib.ListN.{length, take, drop, replicate};
+ghost use Prim.Native.Nat.{ℕ, _+_, _≤_};
+ghost use lib.ListN.{length, take, replicate};
 ghost use Rattle.octets.specs.Octets.{put, same};
 ghost use Rattle.aes.specs.Cipher.{cipher};
 ghost use Rattle.aes.specs.Engine.{Ready};
@@ -10,11 +10,9 @@ ghost use Rattle.aes.specs.Work.{Reports};
 ghost use Rattle.header.specs.Header.{total, strings};
 ghost use Rattle.s2v.specs.S2v.{s2v, s2vWork};
 ghost use Rattle.answers.specs.Answer.{outcomeOf, success, forged};
-ghost use Rattle.siv.specs.Calls.{isKeyLength, scratchNeed, Usable};
-ghost use Rattle.siv.specs.Ring.{slotKey, firstSlot, triedWork};
-ghost use Rattle.siv.specs.Siv.{tagOf, tagOfWork, streamed, streamedWork, sealed, sealedWork, opened, genuine, genuineWork};
-use crate::TAG_LEN;
-use crate::judge;
+ghost use Rattle.whole.specs.Calls.{isKeyLength, scratchNeed, Usable};
+ghost use Rattle.whole.specs.Siv.{tagOf, tagOfWork, streamed, streamedWork, sealed, sealedWork, opened, genuine, genuineWork};
+use admission::TAG_LEN;
 use aes::Counted;
 use aes::Engine;
 use aes::RoundKeys;
@@ -23,15 +21,9 @@ use answers::Refusal;
 use octets::Block;
 
 // Whether a string is genuine, and the work that it took to tell.
-pub(crate) struct Tried {
-    pub(crate) genuine: bool,
-    pub(crate) work: usize,
-}
-
-// The slot that a search ended at, and the work of all that it tried.
-pub(crate) struct Found {
-    pub(crate) slot: usize,
-    pub(crate) work: usize,
+pub struct Tried {
+    pub genuine: bool,
+    pub work: usize,
 }
 
 // S2V under round keys.
@@ -101,7 +93,7 @@ pub(crate) fn seal_admitted(
 }
 
 // Opens to the front of scratch, and says whether the recomputed tag is the given one.
-fn opens(
+pub fn opens(
     engine: &Engine,
     key: &[u8],
     header: &[u8],
@@ -142,83 +134,8 @@ pub(crate) fn open_admitted(
     opens(&engine, key, header, lens, v, &sealed[TAG_LEN..], scratch)
 }
 
-// Opens under the key of one slot of a ring.
-fn opens_slot(
-    engine: &Engine,
-    key_len: usize,
-    ring: &[u8],
-    slot: usize,
-    header: &[u8],
-    lens: &[u32],
-    v: Block,
-    ciphertext: &[u8],
-    scratch: &mut [u8],
-) -> Tried
-    requires { ⌜ Ready (now engine) × (isKeyLength «key_len» ≡ true) × (slot * «key_len» + «key_len» ≤ length (now ring)) × (total (now lens) ≤ length (now header)) × (length (now lens) ≤ 126) × (length (now ciphertext) ≤ length (now scratch)) ⌝ }
-    ensures judged { λ r. ⌜ r .genuine ≡ same (tagOf (slotKey «key_len» (now (ring .entry)) slot) (strings (now (header .entry)) (now (lens .entry))) (streamed (slotKey «key_len» (now (ring .entry)) slot) v (now (ciphertext .entry)))) v ⌝ }
-    ensures work { λ r. ⌜ r .work ≡ streamedWork (now (ciphertext .entry)) + tagOfWork (slotKey «key_len» (now (ring .entry)) slot) (strings (now (header .entry)) (now (lens .entry))) (streamed (slotKey «key_len» (now (ring .entry)) slot) v (now (ciphertext .entry))) ⌝ }
-    ensures text { λ _. ⌜ now (scratch .exit) ≡ put (now (scratch .entry)) 0 (streamed (slotKey «key_len» (now (ring .entry)) slot) v (now (ciphertext .entry))) ⌝ }
-{
-    let at = slot * key_len;
-    opens(
-        engine,
-        &ring[at..at + key_len],
-        header,
-        lens,
-        v,
-        ciphertext,
-        scratch,
-    )
-}
-
-// The first slot of a ring whose key opens, with its plaintext at the front of scratch; the number of slots if none does. With it the work for every key that was tried.
-pub(crate) fn first_slot(
-    key_len: usize,
-    slots: usize,
-    ring: &[u8],
-    header: &[u8],
-    lens: &[u32],
-    sealed: &[u8],
-    scratch: &mut [u8],
-) -> Found
-    requires { ⌜ (isKeyLength «key_len» ≡ true) × (slots * «key_len» ≡ length (now ring)) × (slots ≤ 4) × (total (now lens) ≤ length (now header)) × (length (now lens) ≤ 126) × (16 ≤ length (now sealed)) × (length (now sealed) ≤ 16 + length (now scratch)) ⌝ }
-    ensures found { λ r. ⌜ r .slot ≡ firstSlot (λ i. genuine (slotKey «key_len» (now (ring .entry)) i) (strings (now (header .entry)) (now (lens .entry))) (now (sealed .entry))) 0 slots ⌝ }
-    ensures work { λ r. ⌜ r .work ≡ triedWork (λ i. genuine (slotKey «key_len» (now (ring .entry)) i) (strings (now (header .entry)) (now (lens .entry))) (now (sealed .entry))) (λ i. genuineWork (slotKey «key_len» (now (ring .entry)) i) (strings (now (header .entry)) (now (lens .entry))) (now (sealed .entry))) 0 slots ⌝ }
-    ensures text { λ r. ⌜ (r .slot < slots → now (scratch .exit) ≡ put (now (scratch .entry)) 0 (opened (slotKey «key_len» (now (ring .entry)) (r .slot)) (now (sealed .entry)))) ⌝ }
-    ensures rest { λ _. ⌜ drop (length (now (sealed .entry)) - 16) (now (scratch .exit)) ≡ drop (length (now (sealed .entry)) - 16) (now (scratch .entry)) ⌝ }
-{
-    let engine = aes::engine();
-    let v = octets::load(sealed, 0);
-    let ciphertext = &sealed[TAG_LEN..];
-    let mut left = slots;
-    let mut work = 0;
-    let slot = loop {
-        if left == 0 {
-            break slots;
-        }
-        let slot = slots - left;
-        let tried = opens_slot(
-            &engine,
-            key_len,
-            ring,
-            slot,
-            header,
-            lens,
-            v,
-            ciphertext,
-            scratch,
-        );
-        work = work + tried.work;
-        if tried.genuine {
-            break slot;
-        }
-        left -= 1;
-    };
-    Found { slot, work }
-}
-
 // Ends an opening of n bytes: what scratch has of them to the front of output if it is genuine, or zeros; then zeros over the scratch.
-pub(crate) fn deliver(genuine: bool, n: usize, output: &mut [u8], scratch: &mut [u8]) -> Answer
+pub fn deliver(genuine: bool, n: usize, output: &mut [u8], scratch: &mut [u8]) -> Answer
     requires { ⌜ (n ≤ length (now output)) × (scratchNeed n ≤ length (now scratch)) ⌝ }
     ensures outcome { λ r. ⌜ ((w : ℕ) → outcomeOf r w ≡ cond genuine (success n w) (forged w)) ⌝ }
     ensures output { λ _. ⌜ now (output .exit) ≡ put (now (output .entry)) 0 (cond genuine (take n (now (scratch .entry))) (replicate n 0)) ⌝ }
@@ -226,10 +143,10 @@ pub(crate) fn deliver(genuine: bool, n: usize, output: &mut [u8], scratch: &mut 
 {
     if genuine {
         octets::copy_at(output, 0, &scratch[0..n]);
-        octets::zero_at(scratch, 0, judge::scratch_need(n));
+        octets::zero_at(scratch, 0, admission::scratch_need(n));
         return Answer::Ok(n);
     }
     octets::zero_at(output, 0, n);
-    octets::zero_at(scratch, 0, judge::scratch_need(n));
+    octets::zero_at(scratch, 0, admission::scratch_need(n));
     Answer::Refused(Refusal::Forged)
 }

@@ -83,7 +83,7 @@ fn by_ring(ring: &[u8], header: &[u8], lens: &[u32], sealed: &[u8])
 {
     let mut output = [0u8; 64];
     let mut scratch = [0u8; 64];
-    let opened = siv::open_ring(32, ring, header, lens, sealed, &mut output, &mut scratch);
+    let opened = ring::open_ring(32, ring, header, lens, sealed, &mut output, &mut scratch);
     printer::line(b"    opened by the ring", &output[0..sealed.len() - 16]);
     printer::text(b"    by the key in slot ");
     printer::number(opened.slot);

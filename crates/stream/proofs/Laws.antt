@@ -26,7 +26,7 @@ use Rattle.answers.specs.declared.Answer.the-variants.{Ok, Refused}
 use Rattle.answers.specs.declared.Refusal.the-variants.{Forged}
 use Rattle.answers.specs.Answer.{Outcome, Row, row, first, outcomeOf, success, numberAlone, forged}
 use Rattle.answers.proofs.Laws.{lacks, outcome-number, outcome-work, not-due, first-not, first-pass, first-stop, first-append}
-use Rattle.siv.specs.Calls.{limit}
+use Rattle.whole.specs.Calls.{limit}
 use Rattle.head.specs.declared.Head.{Head}
 use Rattle.head.specs.declared.Made.{Made}
 use Rattle.head.specs.Head.{MakeResult, DidMake, settleHead}

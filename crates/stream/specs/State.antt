@@ -12,7 +12,7 @@ use Rattle.aes.specs.Cipher.{cipher}
 use Rattle.cmac.specs.Cmac.{zeros, subkeys, chain, chainWork}
 use Rattle.s2v.specs.S2v.{tailLength, tagFrom, tagFromWork}
 use Rattle.ctr.specs.Counter.{xorPiece, keptAfter}
-use Rattle.siv.specs.Calls.{limit}
+use Rattle.whole.specs.Calls.{limit}
 use Rattle.head.specs.declared.Head.{Head}
 use Rattle.stream.specs.declared.Stream.{Stream}
 use Rattle.stream.specs.declared.tail.Absorbed.{Absorbed}

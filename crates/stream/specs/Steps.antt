@@ -11,7 +11,7 @@ use Rattle.cmac.specs.Cmac.{zeros}
 use Rattle.header.specs.Header.{strings}
 use Rattle.ctr.specs.Counter.{pieceWork}
 use Rattle.answers.specs.Answer.{Outcome, success, numberAlone, forged, outcomeOf, Row, row, first}
-use Rattle.siv.specs.Calls.{limit, headerRows}
+use Rattle.whole.specs.Calls.{limit, headerRows}
 use Rattle.head.specs.declared.Head.{Head}
 use Rattle.head.specs.Head.{headOf, headOfWork, extended, extendedWork, restRows}
 use Rattle.stream.specs.declared.Step.{Step}

@@ -8,7 +8,7 @@ ghost use Rattle.octets.specs.Octets.{put};
 ghost use Rattle.aes.specs.Work.{Reports};
 ghost use Rattle.s2v.specs.S2v.{tailLength};
 ghost use Rattle.ctr.specs.Counter.{noBlock, pieceWork};
-ghost use Rattle.siv.specs.Calls.{limit};
+ghost use Rattle.whole.specs.Calls.{limit};
 ghost use Rattle.stream.specs.State.{tagOfState, tagOfStateWork, streamedAt, keptAt};
 use crate::Stream;
 use aes::Counted;

@@ -77,9 +77,9 @@ pub(crate) fn ended() -> Stream
 
 impl Stream {
     // The length of a tag.
-    pub const TAG_LEN: usize = siv::TAG_LEN;
+    pub const TAG_LEN: usize = admission::TAG_LEN;
     // The longest plaintext.
-    pub const LIMIT: usize = siv::LIMIT;
+    pub const LIMIT: usize = admission::LIMIT;
 
     // A sealer's state from a key and a header list.
     pub fn begin_sealer(key: &[u8], header: &[u8], lens: &[u32]) -> Step
@@ -93,7 +93,7 @@ impl Stream {
         ensures { λ r. ⌜ DidStep (beginOpener (now (key .entry)) (now (header .entry)) (now (lens .entry)) (now (tag .entry))) r [] ⌝ }
     {
         if !judge::is_tag(tag) {
-            return begin::untagged(siv::judge::judge_header(key.len(), lens, header.len()));
+            return begin::untagged(admission::judge_header(key.len(), lens, header.len()));
         }
         begin::begun(Head::make(key, header, lens), 3, octets::load(tag, 0))
     }

@@ -9,7 +9,7 @@ ghost use Rattle.aes.specs.Engine.{Ready};
 ghost use Rattle.aes.specs.Work.{Reports};
 ghost use Rattle.cmac.specs.Cmac.{chain, chainWork};
 ghost use Rattle.s2v.specs.S2v.{tailLength};
-ghost use Rattle.siv.specs.Calls.{limit};
+ghost use Rattle.whole.specs.Calls.{limit};
 ghost use Rattle.stream.specs.State.{tailOf, Absorbs};
 use crate::Stream;
 use crate::Tail;

@@ -7,7 +7,7 @@ use borrow.Author.Needs.{needs}
 use borrow.Author.Tests.{eq-eqb, ne-eqb}
 use Rattle.answers.specs.Answer.{Outcome, first, numberAlone, outcomeOf}
 use Rattle.answers.proofs.Laws.{told-refused, passed}
-use Rattle.siv.specs.Ring.{ringRows}
+use Rattle.whole.specs.Ring.{ringRows}
 use Rattle.kinphlor.specs.Interface.{emptyNonceRing}
 use Rattle.kinphlor.proofs.empty_nonce_ring.Statement.{statement}
 use Rattle.kinphlor.proofs.empty_nonce_ring.Tie as tie

@@ -2,7 +2,7 @@
 -- Assumes nothing.
 use mathlib.Core.Path.{sym, _∙_}
 use borrow.Author.Needs.{needs}
-use Rattle.siv.proofs.Ring.{ring-small}
+use Rattle.whole.proofs.Ring.{ring-small}
 use Rattle.kinphlor.proofs.Laws.{ring-nonce-refused, ring-packed}
 use Rattle.kinphlor.proofs.kinphlor_open_ring.Statement.{statement}
 use Rattle.kinphlor.proofs.kinphlor_open_ring.Tie as tie

@@ -6,8 +6,8 @@ use native.Mathlib.Omega.{arith}
 use lib.ListN.{length}
 use borrow.Author.Needs.{needs}
 use Rattle.answers.proofs.Laws.{told-refused, passed}
-use Rattle.siv.specs.Siv.{opened}
-use Rattle.siv.proofs.Laws.{openJudged, OpenAdmits, open-admits, open-refused, open-delivered, length-opened, put-rest, text-read, scratch-wiped}
+use Rattle.whole.specs.Siv.{opened}
+use Rattle.whole.proofs.Laws.{openJudged, OpenAdmits, open-admits, open-refused, open-delivered, length-opened, put-rest, text-read, scratch-wiped}
 use Rattle.siv.proofs.open.Statement.{statement}
 use Rattle.siv.proofs.open.Tie as tie
 

@@ -8,8 +8,8 @@ use borrow.Author.Needs.{needs}
 use Rattle.octets.specs.Octets.{put}
 use Rattle.answers.specs.Answer.{Outcome}
 use Rattle.answers.proofs.Laws.{told-refused, told-ok}
-use Rattle.siv.specs.Calls.{sealNumber}
-use Rattle.siv.proofs.Laws.{SealAdmits, seal-admits, seal-refused, seal-done}
+use Rattle.whole.specs.Calls.{sealNumber}
+use Rattle.whole.proofs.Laws.{SealAdmits, seal-admits, seal-refused, seal-done}
 use Rattle.siv.proofs.seal.Statement.{statement}
 use Rattle.siv.proofs.seal.Tie as tie
 

@@ -5,8 +5,8 @@ use lib.ListN.{length}
 use borrow.Author.Needs.{needs}
 use Rattle.answers.specs.Answer.{first}
 use Rattle.answers.proofs.Laws.{told-refused, passed}
-use Rattle.siv.specs.Calls.{headerRows}
-use Rattle.siv.proofs.Laws.{header-usable}
+use Rattle.whole.specs.Calls.{headerRows}
+use Rattle.whole.proofs.Laws.{header-usable}
 use Rattle.head.specs.Head.{makeHead}
 use Rattle.head.proofs.Laws.{make-refused, make-done}
 use Rattle.head.proofs.Head.make.Statement.{statement}

@@ -11,8 +11,8 @@ use Rattle.aes.specs.Aes.{isWidth}
 use Rattle.aes.specs.KeyExpansion.{roundKeys}
 use Rattle.header.proofs.Laws.{blocks-most}
 use Rattle.answers.specs.Answer.{success}
-use Rattle.siv.proofs.Laws.{KeyHalves, halves}
-use Rattle.siv.proofs.Lengths.{header-lengths}
+use Rattle.whole.proofs.Laws.{KeyHalves, halves}
+use Rattle.whole.proofs.Lengths.{header-lengths}
 use Rattle.head.specs.Head.{headOfWork}
 use Rattle.head.proofs.Laws.{prepared}
 use Rattle.head.proofs.admitted.head_of.Statement.{statement}

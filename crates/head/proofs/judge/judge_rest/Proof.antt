@@ -8,7 +8,7 @@ use lib.Dec.{ltb}
 use lib.ListN.{length}
 use borrow.Author.Needs.{needs}
 use borrow.Author.Tests.{lt-ltb, le-ltb, not-false}
-use Rattle.siv.proofs.Laws.{sum-passes}
+use Rattle.whole.proofs.Laws.{sum-passes}
 use Rattle.head.specs.Head.{fitsHead}
 use Rattle.head.proofs.Laws.{fit}
 use Rattle.head.proofs.judge.judge_rest.Statement.{statement}

@@ -5,7 +5,7 @@ use borrow.Author.Needs.{needs}
 use Rattle.octets.specs.Octets.{put}
 use Rattle.octets.proofs.Strings.{part-rest}
 use Rattle.header.specs.Header.{strings}
-use Rattle.siv.proofs.Laws.{opened-by, genuine-by, genuine-work-by}
+use Rattle.whole.proofs.Laws.{opened-by, genuine-by, genuine-work-by}
 use Rattle.siv.proofs.admitted.open_admitted.Statement.{statement}
 use Rattle.siv.proofs.admitted.open_admitted.Tie as tie
 

@@ -9,9 +9,9 @@ use Rattle.octets.specs.Octets.{same}
 use Rattle.aes.specs.Work.{Reports}
 use Rattle.header.specs.Header.{strings}
 use Rattle.header.proofs.Laws.{blocks-most}
-use Rattle.siv.specs.Siv.{tagOf, tagOfWork, streamed}
-use Rattle.siv.proofs.Laws.{length-streamed, text-read}
-use Rattle.siv.proofs.Lengths.{tag-of-lengths, streamed-lengths}
+use Rattle.whole.specs.Siv.{tagOf, tagOfWork, streamed}
+use Rattle.whole.proofs.Laws.{length-streamed, text-read}
+use Rattle.whole.proofs.Lengths.{tag-of-lengths, streamed-lengths}
 use Rattle.siv.proofs.admitted.opens.Statement.{statement}
 use Rattle.siv.proofs.admitted.opens.Tie as tie
 

@@ -9,8 +9,8 @@ use borrow.Author.Needs.{needs}
 use Rattle.octets.specs.Octets.{put}
 use Rattle.octets.proofs.Strings.{put-put}
 use Rattle.header.proofs.Laws.{blocks-most}
-use Rattle.siv.specs.Siv.{streamed, sealed, sealedWork}
-use Rattle.siv.proofs.Lengths.{tag-of-lengths, streamed-lengths}
+use Rattle.whole.specs.Siv.{streamed, sealed, sealedWork}
+use Rattle.whole.proofs.Lengths.{tag-of-lengths, streamed-lengths}
 use Rattle.siv.proofs.admitted.seal_admitted.Statement.{statement}
 use Rattle.siv.proofs.admitted.seal_admitted.Tie as tie
 

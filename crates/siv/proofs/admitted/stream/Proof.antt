@@ -13,8 +13,8 @@ use Rattle.aes.specs.KeyExpansion.{roundKeys}
 use Rattle.aes.proofs.Widths.{length-cipher}
 use Rattle.ctr.specs.Counter.{xorStream}
 use Rattle.ctr.proofs.Laws.{pieceWork-fresh, xorPiece-fresh}
-use Rattle.siv.specs.Siv.{ctrKey, streamed, streamedWork}
-use Rattle.siv.proofs.Laws.{KeyHalves, halves, aes-cipher}
+use Rattle.whole.specs.Siv.{ctrKey, streamed, streamedWork}
+use Rattle.whole.proofs.Laws.{KeyHalves, halves, aes-cipher}
 use Rattle.siv.proofs.admitted.stream.Statement.{statement}
 use Rattle.siv.proofs.admitted.stream.Tie as tie
 

@@ -12,8 +12,8 @@ use Rattle.aes.specs.Aes.{isWidth}
 use Rattle.aes.specs.KeyExpansion.{roundKeys}
 use Rattle.header.specs.Header.{strings}
 use Rattle.s2v.specs.S2v.{s2v, s2vWork}
-use Rattle.siv.specs.Siv.{macKey, tagOf, tagOfWork}
-use Rattle.siv.proofs.Laws.{KeyHalves, halves, aes-cipher}
+use Rattle.whole.specs.Siv.{macKey, tagOf, tagOfWork}
+use Rattle.whole.proofs.Laws.{KeyHalves, halves, aes-cipher}
 use Rattle.siv.proofs.admitted.tag_of.Statement.{statement}
 use Rattle.siv.proofs.admitted.tag_of.Tie as tie
 

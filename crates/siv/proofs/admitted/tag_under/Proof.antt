@@ -15,7 +15,7 @@ use Rattle.header.specs.Blocks.{blocksOf, blocksOfAll}
 use Rattle.header.proofs.Laws.{blocks-most}
 use Rattle.s2v.specs.S2v.{headerResult, tagFromWork, tag, s2v, s2vWork}
 use Rattle.s2v.proofs.Laws.{length-headerResult}
-use Rattle.siv.proofs.Lengths.{header-lengths, tag-lengths}
+use Rattle.whole.proofs.Lengths.{header-lengths, tag-lengths}
 use Rattle.siv.proofs.admitted.tag_under.Statement.{statement}
 use Rattle.siv.proofs.admitted.tag_under.Tie as tie
 

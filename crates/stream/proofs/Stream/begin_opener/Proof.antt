@@ -6,7 +6,7 @@ use lib.ListN.{length}
 use borrow.Author.Needs.{needs}
 use borrow.Author.Tests.{eqb-true, not-true, not-false}
 use Rattle.header.specs.Header.{strings}
-use Rattle.siv.specs.Calls.{headerRows}
+use Rattle.whole.specs.Calls.{headerRows}
 use Rattle.head.specs.Head.{headOf, headOfWork, makeHead}
 use Rattle.stream.specs.Steps.{beginOpener}
 use Rattle.stream.proofs.Laws.{begins-tagged, begins-untagged}

@@ -4,7 +4,7 @@ use lib.ListN.{length}
 use borrow.Author.Needs.{needs}
 use Rattle.header.specs.Header.{strings}
 use Rattle.answers.specs.Answer.{first}
-use Rattle.siv.specs.Calls.{headerRows}
+use Rattle.whole.specs.Calls.{headerRows}
 use Rattle.head.specs.Head.{headOf, headOfWork, makeHead}
 use Rattle.stream.specs.Steps.{beginSealer}
 use Rattle.stream.proofs.Laws.{begins}

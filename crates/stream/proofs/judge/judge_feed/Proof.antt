@@ -6,7 +6,7 @@ use Prim.Native.Nat.{_+_}
 use native.Mathlib.Omega.{arith}
 use borrow.Author.Tests.{lt-ltb, le-ltb, not-false, ltb-false}
 use borrow.Author.Needs.{needs}
-use Rattle.siv.specs.Calls.{limit}
+use Rattle.whole.specs.Calls.{limit}
 use Rattle.stream.proofs.Laws.{fit}
 use Rattle.stream.proofs.judge.judge_feed.Statement.{statement}
 use Rattle.stream.proofs.judge.judge_feed.Tie as tie

@@ -1,7 +1,7 @@
 -- `stream::judge::passes` meets its contract.
 -- Assumes nothing.
 use borrow.Author.Needs.{needs}
-use Rattle.siv.proofs.Laws.{sum-passes}
+use Rattle.whole.proofs.Laws.{sum-passes}
 use Rattle.stream.proofs.judge.passes.Statement.{statement}
 use Rattle.stream.proofs.judge.passes.Tie as tie
 

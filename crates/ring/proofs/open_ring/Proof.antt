@@ -1,0 +1,125 @@
+-- `ring::open_ring` meets its contract.
+-- Assumes nothing.
+use mathlib.Core.Path.{_≡_, ap, sym}
+use mathlib.Core.Bool.{Bool, true, cond}
+use Prim.Native.Nat.{ℕ, _-_}
+use native.Mathlib.Omega.{arith}
+use lib.Dec.{ltb}
+use lib.ListN.{length}
+use borrow.Author.Needs.{needs}
+use borrow.Author.Tests.{lt-ltb, le-ltb}
+use Rattle.answers.specs.Answer.{outcomeOf, success, forged}
+use Rattle.answers.proofs.Laws.{told-refused, passed}
+use Rattle.whole.specs.Calls.{isKeyLength}
+use Rattle.whole.specs.Ring.{slotCount, slotKey}
+use Rattle.whole.proofs.Laws.{OpenAdmits, open-admits}
+use Rattle.whole.proofs.Ring.{key-length-some, RingWhole, ring-admits, ringJudged, ring-judged, slot-passed, ring-refused, ring-delivered}
+use Rattle.ring.proofs.open_ring.Statement.{statement}
+use Rattle.ring.proofs.open_ring.Tie as tie
+
+-- past the refusals none but 8 was due
+judged : (c : tie.At-match-keys2)
+    → let a = c .before .before .before .before .before .before .before .before .args in
+    ringJudged (a .key-len) (a .ring .now) (a .header .now) (a .lens .now) (a .input .now) (a .output .now) (a .scratch .now) ≡ 0
+judged c = passed (c .before .judge-open-ring .result) _ (c .match .keys2) (c .before .judge-open-ring .ensures)
+
+-- what they leave of the ring
+whole : (c : tie.At-match-keys2)
+    → let a = c .before .before .before .before .before .before .before .before .args in
+    (isKeyLength (a .key-len) ≡ true) × RingWhole (a .key-len) (length (a .ring .now))
+whole c =
+    let a = c .before .before .before .before .before .before .before .before .args in
+    ring-admits (a .key-len) (length (a .ring .now))
+    (ring-judged (a .key-len) (a .ring .now) (a .header .now) (a .lens .now) (a .input .now) (a .output .now) (a .scratch .now) (judged c) .0)
+
+-- and of the single call, with slot 0's key
+admits : (c : tie.At-match-keys2)
+    → let a = c .before .before .before .before .before .before .before .before .args in
+    OpenAdmits (slotKey (a .key-len) (a .ring .now) 0) (a .header .now) (a .lens .now) (a .input .now) (a .output .now) (a .scratch .now)
+admits c =
+    let a = c .before .before .before .before .before .before .before .before .args in
+    open-admits _ _ _ _ _ _
+    (slot-passed (a .key-len) (a .ring .now) (a .header .now) (a .lens .now) (a .input .now) (a .output .now) (a .scratch .now) (judged c) 0 (whole c .1 .some))
+
+judge-open-ring-requires : tie.Need-judge-open-ring-requires
+judge-open-ring-requires c κs = search needs
+
+enum-told : tie.Need-enum-told
+enum-told c = search needs
+
+returns : tie.Need-returns
+returns c =
+    ring-refused _ _ _ _ _ _ _ (c .before .before .judge-open-ring .result) (told-refused (c .before .before .judge-open-ring .result) (c .before .match .keys1)) (c .before .before .judge-open-ring .ensures)
+
+enum-told-2 : tie.Need-enum-told-2
+enum-told-2 c = search needs
+
+div-slots : tie.Need-div-slots
+div-slots c = key-length-some _ (whole (c .before) .0)
+
+first-slot-requires : tie.Need-first-slot-requires
+first-slot-requires c κs =
+    let a = admits (c .before .before) in
+    (whole (c .before .before) .0, whole (c .before .before) .1 .whole, whole (c .before .before) .1 .most, omega (arith, a .listed), a .few, a .tagged, omega (arith, a .scratchy))
+
+sub-deliver : tie.Need-sub-deliver
+sub-deliver c = admits (c .before .before .before .before .before) .tagged
+
+deliver-requires : tie.Need-deliver-requires
+deliver-requires c κs =
+    let a = admits (c .before .before .before .before .before .before .before) in
+    (a .roomy, omega (arith, a .scratchy, c .before .before .before .before .first-slot .kept .1 .1 .1 .1 .1 .1 .0))
+
+-- the answer is that of a slot that was found, or of none
+told : (c : tie.After-deliver)
+    → let searched = c .before .before .before .before .before in
+    let a = searched .before .before .before .before .before .before .before .before .before .before .before .args in
+    (w : ℕ) → outcomeOf (c .deliver .result) w ≡ cond (ltb (searched .first-slot .result .slot) (slotCount (a .key-len) (length (a .ring .now)))) (success (length (a .input .now) - 16) w) (forged w)
+told c = c .deliver .ensures .0
+
+same-length : tie.Need-same-length
+same-length c = search needs
+
+same-length-2 : tie.Need-same-length-2
+same-length-2 c = search needs
+
+returns-2 : tie.Need-returns-2
+returns-2 c =
+    let done = c .before .before .before .before .before in
+    let searched = done .before .before .before .before .before in
+    let search = searched .first-slot .ensures in
+    ring-delivered _ _ _ _ _ _ _ (judged (searched .before .before .before)) _ (search .0) _ _ _ _ (sym (ap (λ (t : Bool). cond t (searched .first-slot .result .slot) 0) (lt-ltb _ _ (c .if1 .taken))))
+    (search .1 .1 .0) (search .1 .0) (told done) (done .deliver .ensures .1 .0) (search .1 .1 .1) (done .deliver .ensures .1 .1)
+
+same-length-3 : tie.Need-same-length-3
+same-length-3 c = search needs
+
+same-length-4 : tie.Need-same-length-4
+same-length-4 c = search needs
+
+returns-3 : tie.Need-returns-3
+returns-3 c =
+    let done = c .before .before .before .before .before in
+    let searched = done .before .before .before .before .before in
+    let search = searched .first-slot .ensures in
+    ring-delivered _ _ _ _ _ _ _ (judged (searched .before .before .before)) _ (search .0) _ _ _ _ (sym (ap (λ (t : Bool). cond t (searched .first-slot .result .slot) 0) (le-ltb _ _ (c .if1 .left))))
+    (search .1 .1 .0) (search .1 .0) (told done) (done .deliver .ensures .1 .0) (search .1 .1 .1) (done .deliver .ensures .1 .1)
+
+pub open-ring-spec : {M : Type 1} → statement M
+open-ring-spec =
+    tie.close
+    (tie.spec
+    judge-open-ring-requires
+    enum-told
+    returns
+    enum-told-2
+    div-slots
+    first-slot-requires
+    sub-deliver
+    deliver-requires
+    same-length
+    same-length-2
+    returns-2
+    same-length-3
+    same-length-4
+    returns-3)

@@ -1,0 +1,355 @@
+-- Laws of keys and of the whole calls' definitions.
+-- Assumes nothing.
+use mathlib.Core.Path.{_≡_, refl, ap, ap₂, sym, subst, _∙_}
+use mathlib.Core.Bool.{Bool, true, false, not, cond, _||_}
+use mathlib.Core.List.{List, [], _∷_, _++_}
+use Prim.Native.Nat.{ℕ, _+_, _-_, _/_, _≤_, _<_}
+use native.Mathlib.Decide.{decLt, ℕ-discrete}
+use native.Mathlib.Nat.{zero-add}
+use native.Mathlib.Omega.{arith}
+use lib.Dec.{eqb, ltb}
+use lib.ListN.{length, take, drop, replicate, length-drop, length-replicate}
+use lib.Seq.{length-take-le, drop-at, drop-drop}
+use borrow.Author.Tests.{eqb-true, ne-eqb, lt-ltb, le-ltb, ltb-false, not-false}
+use Rattle.octets.specs.Octets.{put, same}
+use Rattle.octets.proofs.Strings.{take-put, put-put}
+use Rattle.aes.specs.Aes.{isWidth, aes}
+use Rattle.aes.specs.Cipher.{cipher}
+use Rattle.aes.specs.KeyExpansion.{roundKeys}
+use Rattle.header.specs.Header.{total, strings}
+use Rattle.s2v.specs.S2v.{s2v, s2vWork}
+use Rattle.ctr.specs.Counter.{xorStream}
+use Rattle.ctr.proofs.Laws.{length-xorStream}
+use Rattle.answers.specs.declared.Answer.{Answer}
+use Rattle.answers.specs.declared.Answer.the-variants.{Ok}
+use Rattle.answers.specs.Answer.{Outcome, Row, row, first, outcomeOf, success, numberAlone, forged}
+use Rattle.answers.proofs.Laws.{first-not, first-pass, first-stop, first-none, none-where, not-due}
+use Rattle.whole.specs.declared.Report.{Report}
+use Rattle.whole.specs.Calls.{isKeyLength, limit, scratchNeed, headerRows, sealRows, openRows, Usable, DidCall, sealNumber, sealCall, openNumber, openCall}
+use Rattle.whole.specs.Siv.{tagOf, tagOfWork, streamed, streamedWork, sealed, sealedWork, opened, genuine, genuineWork}
+
+-- ---- keys
+
+-- what holds of all three key lengths
+pub record KeyHalves (n : ℕ) : Type 0 where
+  pub half : isWidth (n / 2) ≡ true
+  pub even : n ≡ n / 2 + n / 2
+  pub most : n / 2 ≤ 32
+
+pub halves : (n : ℕ) → isKeyLength n ≡ true → KeyHalves n
+unfolding isKeyLength isWidth
+halves n e = go (eqb n 32) (eqb n 48) (eqb-true n 32) (eqb-true n 48) (eqb-true n 64) e
+  where
+    at : (m : ℕ) → KeyHalves m → n ≡ m → KeyHalves n
+    at m k p = subst KeyHalves (sym p) k
+
+    go : (a b : Bool) → (a ≡ true → n ≡ 32) → (b ≡ true → n ≡ 48) → (eqb n 64 ≡ true → n ≡ 64) → (a || b || eqb n 64) ≡ true → KeyHalves n
+    go true b f g h t = at 32 (record { half = refl; even = refl; most = omega arith }) (f refl)
+    go false true f g h t = at 48 (record { half = refl; even = refl; most = omega arith }) (g refl)
+    go false false f g h t = at 64 (record { half = refl; even = refl; most = omega arith }) (h t)
+
+-- ---- sums
+
+-- a sum past a limit, told without the sum
+pub sum-passes : (most total n : ℕ) → total ≤ most → ltb (most - total) n ≡ ltb most (total + n)
+sum-passes most total n h = go (decLt (most - total) n)
+  where
+    go : Dec (most - total < n) → ltb (most - total) n ≡ ltb most (total + n)
+    go (yes k) = lt-ltb (most - total) n k ∙ sym (lt-ltb most (total + n) (omega arith))
+    go (no k) = le-ltb (most - total) n (omega arith) ∙ sym (le-ltb most (total + n) (omega arith))
+
+-- ---- keys under the cipher
+
+-- AES under a key is the cipher at its width under its round keys
+pub aes-cipher : {width : ℕ} {keys : List ℕ} (key : List ℕ) → width ≡ length key → keys ≡ roundKeys key → cipher width keys ≡ aes key
+unfolding aes
+aes-cipher key w k = ap₂ cipher w k
+
+-- ---- the halves of a key
+
+module _ (key : List ℕ) (e : isKeyLength (length key) ≡ true) where
+  long-mac : length key / 2 ≡ length (take (length key / 2) key)
+  long-mac = let h : KeyHalves (length key) = halves (length key) e in sym (length-take-le (length key / 2) key (omega arith))
+
+  long-ctr : length key / 2 ≡ length (drop (length key / 2) key)
+  long-ctr = let h : KeyHalves (length key) = halves (length key) e in simp length-drop (omega arith)
+
+  -- the tag is by the round keys of the first half
+  pub tag-by-half : {keys : List ℕ} (ss : List (List ℕ)) (p : List ℕ) → keys ≡ roundKeys (take (length key / 2) key) → s2v (cipher (length key / 2) keys) ss p ≡ tagOf key ss p
+  unfolding tagOf
+  tag-by-half ss p k = ap (λ (E : List ℕ → List ℕ). s2v E ss p) (aes-cipher (take (length key / 2) key) long-mac k)
+
+  pub tag-work-by-half : {keys : List ℕ} (ss : List (List ℕ)) (p : List ℕ) → keys ≡ roundKeys (take (length key / 2) key) → s2vWork (cipher (length key / 2) keys) ss p ≡ tagOfWork key ss p
+  unfolding tagOfWork
+  tag-work-by-half ss p k = ap (λ (E : List ℕ → List ℕ). s2vWork E ss p) (aes-cipher (take (length key / 2) key) long-mac k)
+
+  -- the key stream is by those of the second
+  pub stream-by-half : {keys : List ℕ} (v s : List ℕ) → keys ≡ roundKeys (drop (length key / 2) key) → xorStream (cipher (length key / 2) keys) v 0 s ≡ streamed key v s
+  unfolding streamed
+  stream-by-half v s k = ap (λ (E : List ℕ → List ℕ). xorStream E v 0 s) (aes-cipher (drop (length key / 2) key) long-ctr k)
+
+-- the tag at the front, and behind it the plaintext under the tag's key stream, are the sealed string
+pub sealed-written : (key : List ℕ) (ss : List (List ℕ)) (p out : List ℕ) {v wrote last : List ℕ} → v ≡ tagOf key ss p → length v ≡ 16 → 16 + length p ≤ length out
+    → wrote ≡ put out 0 v → last ≡ put wrote 16 (streamed key v p) → last ≡ put out 0 (sealed key ss p)
+unfolding sealed
+sealed-written key ss p out {v} t long room w e =
+    let place : 16 ≡ 0 + length v = omega arith in
+    e
+    ∙ ap₂ (λ (l : List ℕ) (n : ℕ). put l n (streamed key v p)) w place
+    ∙ put-put out 0 v (streamed key v p) (omega (arith, long, room))
+    ∙ ap (λ (x : List ℕ). put out 0 (x ++ streamed key x p)) t
+
+-- ---- the whole calls
+
+-- what the refusals of key and header list leave
+pub header-admits : (keyLength : ℕ) (lens : List ℕ) (headerLength : ℕ) → first (headerRows keyLength lens headerLength) ≡ 0
+    → (isKeyLength keyLength ≡ true) × (total lens ≡ headerLength) × (length lens ≤ 126)
+header-admits keyLength lens headerLength e =
+    let a = not-due (not (isKeyLength keyLength)) 0 _ e in
+    let b = not-due (ltb 126 (length lens)) 1 _ (a .1) in
+    let d = not-due (not (eqb (total lens) headerLength)) 2 0 (b .1) in
+    (not-false (isKeyLength keyLength) (a .0), eqb-true (total lens) headerLength (not-false (eqb (total lens) headerLength) (d .0)), ltb-false 126 (length lens) (b .0))
+
+pub header-usable : (key bytes lens : List ℕ) → first (headerRows (length key) lens (length bytes)) ≡ 0 → Usable key bytes lens
+header-usable key bytes lens e =
+    let a = header-admits (length key) lens (length bytes) e in
+    (a .0, omega (arith, a .1), a .2)
+
+-- what sealing's refusals leave
+pub record SealAdmits (key bytes lens input output scratch : List ℕ) : Type 0 where
+  pub keyed : isKeyLength (length key) ≡ true
+  pub listed : total lens ≡ length bytes
+  pub few : length lens ≤ 126
+  pub limited : length input ≤ 1048576
+  pub roomy : length input + 16 ≤ length output
+  pub scratchy : scratchNeed (length input) ≤ length scratch
+
+module _ (key bytes lens input output scratch : List ℕ) where
+  pub seal-admits : sealNumber key bytes lens input output scratch ≡ 0 → SealAdmits key bytes lens input output scratch
+  unfolding sealNumber
+  seal-admits e =
+      let none = first-none (headerRows (length key) lens (length bytes)) (sealRows (length input) (length output) (length scratch)) refl e in
+      let a = header-admits (length key) lens (length bytes) (none .0) in
+      let f = not-due (ltb limit (length input)) 3 _ (none .1) in
+      let g = not-due (ltb (length output) (length input + 16)) 5 _ (f .1) in
+      let h = not-due (ltb (length scratch) (scratchNeed (length input))) 6 0 (g .1) in
+      record {
+        keyed = a .0;
+        listed = a .1;
+        few = a .2;
+        limited = ltb-false limit (length input) (f .0);
+        roomy = ltb-false (length output) (length input + 16) (g .0);
+        scratchy = ltb-false (length scratch) (scratchNeed (length input)) (h .0);
+      }
+
+  -- no length is above the longest sealed string's
+  pub seal-count : sealCall key bytes lens input output scratch .outcome .count ≤ limit + 16
+  unfolding sealCall
+  seal-count = go (eqb (sealNumber key bytes lens input output scratch) 0) refl
+    where
+      go : (t : Bool) → eqb (sealNumber key bytes lens input output scratch) 0 ≡ t → cond t (length input + 16) 0 ≤ limit + 16
+      go true e = omega (arith, seal-admits (eqb-true _ 0 e) .limited)
+      go false e = omega arith
+
+  pub seal-refused : (answer : Answer) → (outcomeOf answer 0 .number ≡ 0 → ⊥) → outcomeOf answer 0 ≡ numberAlone (sealNumber key bytes lens input output scratch)
+      → DidCall (sealCall key bytes lens input output scratch) (record { answer = answer; work = 0 }) output scratch
+  unfolding sealCall
+  seal-refused answer k e =
+      let number = sealNumber key bytes lens input output scratch in
+      let off : eqb number 0 ≡ false = ne-eqb number 0 (λ z. k (ap (λ (o : Outcome). o .number) e ∙ z)) in
+      record { outcome = simp off e; output = simp off; scratch = simp off }
+
+  pub seal-done : (w : ℕ) (output′ scratch′ : List ℕ) → sealNumber key bytes lens input output scratch ≡ 0 → w ≡ sealedWork key (strings bytes lens) input
+      → output′ ≡ put output 0 (sealed key (strings bytes lens) input) → scratch′ ≡ put scratch 0 (replicate (scratchNeed (length input)) 0)
+      → DidCall (sealCall key bytes lens input output scratch) (record { answer = Ok (length input + 16); work = w }) output′ scratch′
+  unfolding sealCall
+  seal-done w output′ scratch′ e n p q = record { outcome = simp e (ap (success (length input + 16)) n); output = simp e p; scratch = simp e q }
+
+-- ---- whole opening
+
+-- what opening's refusals but 8 leave
+pub record OpenAdmits (key bytes lens input output scratch : List ℕ) : Type 0 where
+  pub keyed : isKeyLength (length key) ≡ true
+  pub listed : total lens ≡ length bytes
+  pub few : length lens ≤ 126
+  pub tagged : 16 ≤ length input
+  pub limited : length input ≤ 1048592
+  pub roomy : length input - 16 ≤ length output
+  pub scratchy : scratchNeed (length input - 16) ≤ length scratch
+
+-- what was in the bytes that are written over does not matter
+pub put-beyond : (l used b : List ℕ) (n : ℕ) → n ≤ length b → drop n used ≡ drop n l → put used 0 b ≡ put l 0 b
+unfolding put
+put-beyond l used b n h e =
+    let past : n + (length b - n) ≡ 0 + length b = omega arith in
+    let split : (k : List ℕ) → drop (0 + length b) k ≡ drop (length b - n) (drop n k) = λ k. sym (drop-drop (length b - n) n k ∙ ap (λ (m : ℕ). drop m k) past) in
+    ap (λ (t : List ℕ). b ++ t) (split used ∙ ap (drop (length b - n)) e ∙ sym (split l))
+
+-- a string to the front of a list leaves the rest
+pub put-rest : (l a : List ℕ) {used : List ℕ} {n : ℕ} → used ≡ put l 0 a → n ≡ length a → drop n used ≡ drop n l
+unfolding put
+put-rest l a u n =
+    ap₂ drop n u ∙ drop-at a (drop (0 + length a) l) (length a) refl ∙ ap (λ (m : ℕ). drop m l) (zero-add (length a) ∙ sym n)
+
+-- zeros written over what was written before them
+pub put-over : (l a b : List ℕ) → length a ≤ length b → put (put l 0 a) 0 b ≡ put l 0 b
+put-over l a b h = put-beyond l (put l 0 a) b (length a) h (put-rest l a refl refl)
+
+pub length-streamed : (key v s : List ℕ) → length (streamed key v s) ≡ length s
+unfolding streamed
+length-streamed key v s = length-xorStream _ v 0 s
+
+pub length-opened : (key y : List ℕ) → length (opened key y) ≡ length y - 16
+unfolding opened
+length-opened key y = length-streamed key (take 16 y) (drop 16 y) ∙ length-drop 16 y
+
+-- a ciphertext opens under its tag as the sealed string that both are
+pub opened-by : (key y : List ℕ) {v ciphertext : List ℕ} → v ≡ take 16 y → ciphertext ≡ drop 16 y → streamed key v ciphertext ≡ opened key y
+unfolding opened
+opened-by key y p q = ap₂ (streamed key) p q
+
+pub genuine-by : (key : List ℕ) (ss : List (List ℕ)) (y : List ℕ) {v ciphertext : List ℕ} → v ≡ take 16 y → ciphertext ≡ drop 16 y
+    → same (tagOf key ss (streamed key v ciphertext)) v ≡ genuine key ss y
+unfolding genuine
+genuine-by key ss y p q = ap₂ (λ (x w : List ℕ). same (tagOf key ss x) w) (opened-by key y p q) p
+
+pub genuine-work-by : (key : List ℕ) (ss : List (List ℕ)) (y : List ℕ) {v ciphertext : List ℕ} → v ≡ take 16 y → ciphertext ≡ drop 16 y
+    → streamedWork ciphertext + tagOfWork key ss (streamed key v ciphertext) ≡ genuineWork key ss y
+unfolding genuineWork
+genuine-work-by key ss y p q = ap₂ (λ (c x : List ℕ). streamedWork c + tagOfWork key ss x) q (opened-by key y p q)
+
+-- a string, read off the front that it was written to
+pub text-read : (text scratch : List ℕ) {used : List ℕ} {n : ℕ} → used ≡ put scratch 0 text → n ≡ length text → length text ≤ length scratch → take n used ≡ text
+text-read text scratch u n h =
+    let count : _ ≡ 0 + length text = n ∙ sym (zero-add (length text)) in
+    ap₂ take count u ∙ take-put scratch 0 text (omega arith)
+
+-- the scratch is zero once zeros are written over what was used of it
+pub scratch-wiped : (scratch used : List ℕ) (n : ℕ) {last : List ℕ} → drop n used ≡ drop n scratch → last ≡ put used 0 (replicate (scratchNeed n) 0)
+    → last ≡ put scratch 0 (replicate (scratchNeed n) 0)
+scratch-wiped scratch used n u e =
+    let zeros : length (replicate {A = ℕ} (scratchNeed n) 0) ≡ scratchNeed n = length-replicate {A = ℕ} (scratchNeed n) 0 in
+    e ∙ put-beyond scratch used (replicate (scratchNeed n) 0) n (omega arith) u
+
+module _ (key bytes lens input output scratch : List ℕ) where
+  -- the number that opening's judgement gives
+  abbrev pub openJudged : ℕ
+  openJudged = first (headerRows (length key) lens (length bytes) ++ openRows (length input) (length output) (length scratch))
+
+  pub open-admits : openJudged ≡ 0 → OpenAdmits key bytes lens input output scratch
+  open-admits e =
+      let none = first-none (headerRows (length key) lens (length bytes)) (openRows (length input) (length output) (length scratch)) refl e in
+      let a = header-admits (length key) lens (length bytes) (none .0) in
+      let f = not-due (ltb (length input) 16) 4 _ (none .1) in
+      let g = not-due (ltb (limit + 16) (length input)) 3 _ (f .1) in
+      let h = not-due (ltb (length output) (length input - 16)) 5 _ (g .1) in
+      let i = not-due (ltb (length scratch) (scratchNeed (length input - 16))) 6 0 (h .1) in
+      record {
+        keyed = a .0;
+        listed = a .1;
+        few = a .2;
+        tagged = ltb-false (length input) 16 (f .0);
+        limited = ltb-false (limit + 16) (length input) (g .0);
+        roomy = ltb-false (length output) (length input - 16) (h .0);
+        scratchy = ltb-false (length scratch) (scratchNeed (length input - 16)) (i .0);
+      }
+
+  number : ℕ
+  number = openNumber key bytes lens input output scratch
+
+  rows : List Row
+  rows = headerRows (length key) lens (length bytes) ++ openRows (length input) (length output) (length scratch)
+
+  -- a refusal of the judgement is opening's
+  number-due : (openJudged ≡ 0 → ⊥) → number ≡ openJudged
+  unfolding number rows openNumber
+  number-due due = first-stop rows (row 8 (not (genuine key (strings bytes lens) input)) ∷ []) due
+
+  -- past the judgement the tag decides
+  pub by-tag : openJudged ≡ 0 → openNumber key bytes lens input output scratch ≡ cond (not (genuine key (strings bytes lens) input)) 8 0
+  unfolding rows openNumber
+  by-tag judged = first-pass rows (row 8 (not (genuine key (strings bytes lens) input)) ∷ []) refl judged
+
+  not-eight : openJudged ≡ 8 → ⊥
+  unfolding rows
+  not-eight e = first-not 8 rows refl (λ q. omega arith) e
+
+  pub open-refused : (answer : Answer) → (outcomeOf answer 0 .number ≡ 0 → ⊥) → outcomeOf answer 0 ≡ numberAlone openJudged
+      → DidCall (openCall key bytes lens input output scratch) (record { answer = answer; work = 0 }) output scratch
+  unfolding openCall number
+  open-refused answer k e =
+      let due : openJudged ≡ 0 → ⊥ = λ z. k (ap (λ (o : Outcome). o .number) e ∙ z) in
+      let off : eqb number 0 ≡ false = ne-eqb number 0 (λ z. due (sym (number-due due) ∙ z)) in
+      let off8 : eqb number 8 ≡ false = ne-eqb number 8 (λ z. not-eight (sym (number-due due) ∙ z)) in
+      record { outcome = simp (off, off8) (e ∙ ap numberAlone (sym (number-due due))); output = simp (off, off8); scratch = simp (off, off8) }
+
+  -- a refusal of the judgement is the call's number
+  pub open-due : (openJudged ≡ 0 → ⊥) → openCall key bytes lens input output scratch .outcome .number ≡ openJudged
+  unfolding openCall number
+  open-due due = number-due due
+
+  -- with no work
+  pub open-due-work : (openJudged ≡ 0 → ⊥) → openCall key bytes lens input output scratch .outcome .work ≡ 0
+  unfolding openCall number
+  open-due-work due =
+      let off : eqb number 0 ≡ false = ne-eqb number 0 (λ z. due (sym (number-due due) ∙ z)) in
+      let off8 : eqb number 8 ≡ false = ne-eqb number 8 (λ z. not-eight (sym (number-due due) ∙ z)) in
+      simp (off, off8)
+
+  -- past the judgement the work is that of telling
+  pub open-work : openJudged ≡ 0 → openCall key bytes lens input output scratch .outcome .work ≡ genuineWork key (strings bytes lens) input
+  unfolding openCall number
+  open-work judged = go (genuine key (strings bytes lens) input) (by-tag judged)
+    where
+      go : (g : Bool) → number ≡ cond (not g) 8 0 → openCall key bytes lens input output scratch .outcome .work ≡ genuineWork key (strings bytes lens) input
+      go true e = simp e refl
+      go false e = simp e refl
+
+  -- past the judgement the number is 0 where the string is genuine
+  pub open-number : openJudged ≡ 0 → eqb (openCall key bytes lens input output scratch .outcome .number) 0 ≡ genuine key (strings bytes lens) input
+  unfolding openCall number
+  open-number judged = ap (λ (n : ℕ). eqb n 0) (by-tag judged) ∙ none-where (genuine key (strings bytes lens) input)
+
+  -- a number of 0 passed the judgement
+  pub open-passed : openNumber key bytes lens input output scratch ≡ 0 → openJudged ≡ 0
+  unfolding number rows openNumber
+  open-passed e = first-none rows (row 8 (not (genuine key (strings bytes lens) input)) ∷ []) refl e .0
+
+  -- and so did a number of 8
+  pub open-forged : openNumber key bytes lens input output scratch ≡ 8 → openJudged ≡ 0
+  unfolding number
+  open-forged e = go (ℕ-discrete openJudged 0)
+    where
+      go : Dec (openJudged ≡ 0) → openJudged ≡ 0
+      go (yes z) = z
+      go (no z) = absurd (not-eight (sym (number-due z) ∙ e))
+
+  -- any other did not
+  pub open-unread : (openNumber key bytes lens input output scratch ≡ 0 → ⊥) → (openNumber key bytes lens input output scratch ≡ 8 → ⊥) → openJudged ≡ 0 → ⊥
+  open-unread z e judged = go (genuine key (strings bytes lens) input) (by-tag judged)
+    where
+      go : (g : Bool) → openNumber key bytes lens input output scratch ≡ cond (not g) 8 0 → ⊥
+      go true n = z n
+      go false n = e n
+
+  -- no length is above the longest plaintext's
+  pub open-count : openCall key bytes lens input output scratch .outcome .count ≤ limit
+  unfolding openCall
+  open-count = go (eqb (openNumber key bytes lens input output scratch) 0) refl
+    where
+      go : (t : Bool) → eqb (openNumber key bytes lens input output scratch) 0 ≡ t → cond t (length input - 16) 0 ≤ limit
+      go true e = omega (arith, open-admits (open-passed (eqb-true _ 0 e)) .limited)
+      go false e = omega arith
+
+  -- past the judgement what was read of a genuine string, or zeros, are in the output
+  pub open-delivered : (g : Bool) → genuine key (strings bytes lens) input ≡ g → openJudged ≡ 0 → (report : Report) (read output′ scratch′ : List ℕ)
+      → ((w : ℕ) → outcomeOf (report .answer) w ≡ cond g (success (length input - 16) w) (forged w)) → report .work ≡ genuineWork key (strings bytes lens) input → (g ≡ true → read ≡ opened key input)
+      → output′ ≡ put output 0 (cond g read (replicate (length input - 16) 0)) → scratch′ ≡ put scratch 0 (replicate (scratchNeed (length input - 16)) 0)
+      → DidCall (openCall key bytes lens input output scratch) report output′ scratch′
+  unfolding openCall number
+  open-delivered true e judged report read output′ scratch′ o w t p q =
+      let none : number ≡ 0 = by-tag judged ∙ ap (λ (b : Bool). cond (not b) 8 0) e in
+      record { outcome = simp none (o _ ∙ ap (success (length input - 16)) w); output = simp none (p ∙ ap (put output 0) (t refl)); scratch = simp none q }
+  open-delivered false e judged report read output′ scratch′ o w t p q =
+      let eight : number ≡ 8 = by-tag judged ∙ ap (λ (b : Bool). cond (not b) 8 0) e in
+      record { outcome = simp eight (o _ ∙ ap forged w); output = simp eight p; scratch = simp eight q }

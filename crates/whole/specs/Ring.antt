@@ -1,0 +1,89 @@
+-- Whole opening under a ring of keys on every input: number, length, slot, work and the last contents of each lent buffer, from slips 1 and 5 of document 02.
+-- Assumes nothing.
+use mathlib.Core.Path.{_≡_}
+use mathlib.Core.Bool.{Bool, not, cond, _||_}
+use mathlib.Core.List.{List, [], _∷_}
+use Prim.Native.Nat.{ℕ, zero, suc, _+_, _*_, _/_}
+use lib.Dec.{ltb, eqb}
+use lib.ListN.{length}
+use denote.Ref.{now}
+use Rattle.octets.specs.Octets.{part}
+use Rattle.answers.specs.Answer.{Row, row, first}
+use Rattle.whole.specs.declared.RingAnswer.{RingAnswer}
+use Rattle.whole.specs.Calls.{isKeyLength, CallResult, refusedCall, DidCall, openCall, Lent}
+
+-- whether n bytes are one to four whole keys of the stated length
+unfoldable pub isRing : ℕ → ℕ → Bool
+isRing keyLength n = eqb n keyLength || eqb n (2 * keyLength) || eqb n (3 * keyLength) || eqb n (4 * keyLength)
+
+-- how many slots they are, and the key in slot i
+abbrev pub slotCount : ℕ → ℕ → ℕ
+slotCount keyLength n = n / keyLength
+
+abbrev pub slotKey : ℕ → List ℕ → ℕ → List ℕ
+slotKey keyLength ring i = part ring (i * keyLength) keyLength
+
+-- the first of the n slots from i on that passes a test, or the one after them
+abbrev pub firstSlot : (ℕ → Bool) → ℕ → ℕ → ℕ
+firstSlot test i zero = i
+firstSlot test i (suc n) = cond (test i) i (firstSlot test (suc i) n)
+
+-- the sum of a work over the slots that are tried, of the n from i on: up to the first that passes the test, and it too
+abbrev pub triedWork : (ℕ → Bool) → (ℕ → ℕ) → ℕ → ℕ → ℕ
+triedWork test work i zero = 0
+triedWork test work i (suc n) = work i + cond (test i) 0 (triedWork test work (suc i) n)
+
+-- the refusals that judge the stated key length and the ring
+abbrev pub ringRows : ℕ → ℕ → List Row
+ringRows keyLength n = row 1 (not (isKeyLength keyLength)) ∷ row 11 (not (isRing keyLength n)) ∷ []
+
+-- everything that a ring's call does: the slot, and what a whole call does
+pub record RingResult : Type 0 where
+  pub slot : ℕ
+  pub call : CallResult
+
+-- a refusal, with slot 0
+abbrev pub refusedRing : ℕ → List ℕ → List ℕ → RingResult
+refusedRing n output scratch = record { slot = 0; call = refusedCall n output scratch }
+
+-- a ring's call gave what its definition says
+pub record DidRing (result : RingResult) (given : RingAnswer) (lastOutput lastScratch : List ℕ) : Type 0 where
+  pub slot : given .slot ≡ result .slot
+  pub call : DidCall (result .call) (record { answer = given .answer; work = given .work }) lastOutput lastScratch
+
+module _ (keyLength : ℕ) (ring bytes lens input output scratch : List ℕ) where
+  -- whole opening with one slot's key
+  abbrev pub openSlot : ℕ → CallResult
+  openSlot i = openCall (slotKey keyLength ring i) bytes lens input output scratch
+
+  -- whether it opens, and its work
+  abbrev pub opensAt : ℕ → Bool
+  opensAt i = eqb (openSlot i .outcome .number) 0
+
+  abbrev pub workAt : ℕ → ℕ
+  workAt i = openSlot i .outcome .work
+
+  -- whole opening with one slot's key, and the work of several
+  abbrev pub openSlotWith : ℕ → ℕ → CallResult
+  openSlotWith i work =
+      let call = openSlot i in
+      record {
+        outcome = record { number = call .outcome .number; count = call .outcome .count; work = work };
+        output = call .output;
+        scratch = call .scratch;
+      }
+
+  -- a refusal of the stated length or the ring; or the first slot whose key opens, or slot 0 where none does, and whole opening with its key, with the work of all keys tried
+  unfoldable pub openRing : RingResult
+  openRing =
+      let refusal = first (ringRows keyLength (length ring)) in
+      let count = slotCount keyLength (length ring) in
+      let found = firstSlot opensAt 0 count in
+      let slot = cond (ltb found count) found 0 in
+      cond (eqb refusal 0) (record { slot = slot; call = openSlotWith slot (triedWork opensAt workAt 0 count) }) (refusedRing refusal output scratch)
+
+-- what a ring's call promises: with what the lent slices held at entry, its answer, slot and what output and scratch hold at exit are the definition's
+abbrev pub PerformsRing : ℕ → Lent → Lent → Lent → Lent → Lent → Lent → RingAnswer → Type 0
+PerformsRing keyLength ring header lens input output scratch given =
+    DidRing (openRing keyLength (now (ring .entry)) (now (header .entry)) (now (lens .entry)) (now (input .entry)) (now (output .entry)) (now (scratch .entry))) given
+    (now (output .exit)) (now (scratch .exit))
