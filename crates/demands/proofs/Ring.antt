@@ -5,7 +5,7 @@ use mathlib.Core.Bool.{Bool, true, false, false≢true, cond, and-false}
 use mathlib.Core.List.{List}
 use Prim.Native.Nat.{ℕ, _+_, _-_, _*_, _≤_, _<_}
 use native.Mathlib.Decide.{decLe}
-use native.Mathlib.Nat.{add-zero, zero-mul}
+use native.Mathlib.Nat.{zero-add, zero-mul}
 use native.Mathlib.Omega.{arith}
 use lib.Dec.{eqb}
 use lib.ListN.{length, take, drop}
@@ -14,6 +14,7 @@ use borrow.Author.Tests.{eqb-true, eq-eqb, ne-eqb}
 use Rattle.header.specs.Header.{total, strings}
 use Rattle.answers.specs.Answer.{Outcome, first}
 use Rattle.whole.specs.Calls.{isKeyLength, limit, scratchNeed, openNumber, openCall}
+use Rattle.whole.specs.declared.Found.{Found}
 use Rattle.whole.specs.Ring.{isRing, slotCount, slotKey, ringRows, triedWork, RingResult, openSlot, opensAt, workAt, openSlotWith, openRing}
 use Rattle.whole.specs.Work.{blockWork}
 use Rattle.whole.proofs.Ring.{key-length-some, whole-ring, slot-keyed, Chosen, found, none, chosen-within, Comes, goes, stops, ring-comes, ring-work}
@@ -79,10 +80,13 @@ module _ (key bytes lens input output scratch : List ℕ) where
   slot-zero : slotKey (length key) key 0 ≡ key
   slot-zero = ap (λ (n : ℕ). take (length key) (drop n key)) (zero-mul (length key)) ∙ take-length key
 
-  -- after one key nothing is added
-  one : (t : Bool) (w : ℕ) → w + cond t 0 0 ≡ w
-  one true w = add-zero w
-  one false w = add-zero w
+  -- one slot's work is all that is tried
+  one : (test : ℕ → Bool) (work : ℕ → ℕ) → triedWork test work 0 1 ≡ work 0
+  one test work = go (test 0)
+    where
+      go : (t : Bool) → _≡_ {A = ℕ} (cond {A = Found} t (record { slot = 0; work = 0 + work 0 }) (record { slot = 1; work = 0 + work 0 }) .work) (work 0)
+      go true = zero-add (work 0)
+      go false = zero-add (work 0)
 
   -- a length that is no key length gives 1 from both
   refused : isKeyLength (length key) ≡ false → openRing (length key) key bytes lens input output scratch ≡ record { slot = 0; call = openCall key bytes lens input output scratch }
@@ -99,7 +103,7 @@ module _ (key bytes lens input output scratch : List ℕ) where
           (λ s g.
           let at : s ≡ 0 = omega (arith, chosen-within _ 1 (omega arith) g) in
           ap (given (length key) 1 key bytes lens input output scratch) at
-          ∙ ap (λ (w : ℕ). record { slot = 0; call = openSlotWith (length key) key bytes lens input output scratch 0 w }) (one (opensAt (length key) key bytes lens input output scratch 0) _)
+          ∙ ap (λ (w : ℕ). record { slot = 0; call = openSlotWith (length key) key bytes lens input output scratch 0 w }) (one (opensAt (length key) key bytes lens input output scratch) (workAt (length key) key bytes lens input output scratch))
           ∙ ap (λ (k : List ℕ). record { slot = 0; call = openCall k bytes lens input output scratch }) slot-zero)
       go false k = refused k
 

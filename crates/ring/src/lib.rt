@@ -3,24 +3,18 @@ ghost use mathlib.Core.Path.{_≡_};
 ghost use mathlib.Core.Bool.{true};
 ghost use Prim.Native.Nat.{_+_, _-_, _*_, _≤_, _<_};
 ghost use lib.ListN.{length, drop};
-ghost use Rattle.octets.specs.Octets.{put, same};
+ghost use Rattle.octets.specs.Octets.{put};
 ghost use Rattle.aes.specs.Engine.{Ready};
 ghost use Rattle.header.specs.Header.{total, strings};
 ghost use Rattle.whole.specs.Calls.{isKeyLength};
-ghost use Rattle.whole.specs.Ring.{PerformsRing, slotKey, firstSlot, triedWork};
-ghost use Rattle.whole.specs.Siv.{tagOf, tagOfWork, streamed, streamedWork, sealed, opened, genuine, genuineWork};
+ghost use Rattle.whole.specs.Ring.{PerformsRing, slotKey, trySlots};
+ghost use Rattle.whole.specs.Siv.{opened, genuine, genuineWork};
 use admission::TAG_LEN;
 use aes::Engine;
 use answers::Answer;
-use octets::Block;
 use siv::admitted::Tried;
+use whole::Found;
 use whole::RingAnswer;
-
-// The slot that a search ended at, and the work of all that it tried.
-struct Found {
-    slot: usize,
-    work: usize,
-}
 
 // Opens under the key of one slot of a ring.
 fn opens_slot(
@@ -30,14 +24,13 @@ fn opens_slot(
     slot: usize,
     header: &[u8],
     lens: &[u32],
-    v: Block,
-    ciphertext: &[u8],
+    sealed: &[u8],
     scratch: &mut [u8],
 ) -> Tried
-    requires { ⌜ Ready (now engine) × (isKeyLength «key_len» ≡ true) × (slot * «key_len» + «key_len» ≤ length (now ring)) × (total (now lens) ≤ length (now header)) × (length (now lens) ≤ 126) × (length (now ciphertext) ≤ length (now scratch)) ⌝ }
-    ensures judged { λ r. ⌜ r .genuine ≡ same (tagOf (slotKey «key_len» (now (ring .entry)) slot) (strings (now (header .entry)) (now (lens .entry))) (streamed (slotKey «key_len» (now (ring .entry)) slot) v (now (ciphertext .entry)))) v ⌝ }
-    ensures work { λ r. ⌜ r .work ≡ streamedWork (now (ciphertext .entry)) + tagOfWork (slotKey «key_len» (now (ring .entry)) slot) (strings (now (header .entry)) (now (lens .entry))) (streamed (slotKey «key_len» (now (ring .entry)) slot) v (now (ciphertext .entry))) ⌝ }
-    ensures text { λ _. ⌜ now (scratch .exit) ≡ put (now (scratch .entry)) 0 (streamed (slotKey «key_len» (now (ring .entry)) slot) v (now (ciphertext .entry))) ⌝ }
+    requires { ⌜ Ready (now engine) × (isKeyLength «key_len» ≡ true) × (slot * «key_len» + «key_len» ≤ length (now ring)) × (total (now lens) ≤ length (now header)) × (length (now lens) ≤ 126) × (16 ≤ length (now sealed)) × (length (now sealed) ≤ 16 + length (now scratch)) ⌝ }
+    ensures judged { λ r. ⌜ r .genuine ≡ genuine (slotKey «key_len» (now (ring .entry)) slot) (strings (now (header .entry)) (now (lens .entry))) (now (sealed .entry)) ⌝ }
+    ensures work { λ r. ⌜ r .work ≡ genuineWork (slotKey «key_len» (now (ring .entry)) slot) (strings (now (header .entry)) (now (lens .entry))) (now (sealed .entry)) ⌝ }
+    ensures text { λ _. ⌜ now (scratch .exit) ≡ put (now (scratch .entry)) 0 (opened (slotKey «key_len» (now (ring .entry)) slot) (now (sealed .entry))) ⌝ }
 {
     let at = slot * key_len;
     siv::admitted::opens(
@@ -45,13 +38,12 @@ fn opens_slot(
         &ring[at..at + key_len],
         header,
         lens,
-        v,
-        ciphertext,
+        sealed,
         scratch,
     )
 }
 
-// The first slot of a ring whose key opens, with its plaintext at the front of scratch; the number of slots if none does. With it the work for every key that was tried.
+// Tries the slots of a ring from slot 0 on: ends at the first whose key opens, with its plaintext at the front of scratch, or behind the last.
 fn first_slot(
     key_len: usize,
     slots: usize,
@@ -62,14 +54,11 @@ fn first_slot(
     scratch: &mut [u8],
 ) -> Found
     requires { ⌜ (isKeyLength «key_len» ≡ true) × (slots * «key_len» ≡ length (now ring)) × (slots ≤ 4) × (total (now lens) ≤ length (now header)) × (length (now lens) ≤ 126) × (16 ≤ length (now sealed)) × (length (now sealed) ≤ 16 + length (now scratch)) ⌝ }
-    ensures found { λ r. ⌜ r .slot ≡ firstSlot (λ i. genuine (slotKey «key_len» (now (ring .entry)) i) (strings (now (header .entry)) (now (lens .entry))) (now (sealed .entry))) 0 slots ⌝ }
-    ensures work { λ r. ⌜ r .work ≡ triedWork (λ i. genuine (slotKey «key_len» (now (ring .entry)) i) (strings (now (header .entry)) (now (lens .entry))) (now (sealed .entry))) (λ i. genuineWork (slotKey «key_len» (now (ring .entry)) i) (strings (now (header .entry)) (now (lens .entry))) (now (sealed .entry))) 0 slots ⌝ }
+    ensures found { λ r. ⌜ r ≡ trySlots (λ i. genuine (slotKey «key_len» (now (ring .entry)) i) (strings (now (header .entry)) (now (lens .entry))) (now (sealed .entry))) (λ i. genuineWork (slotKey «key_len» (now (ring .entry)) i) (strings (now (header .entry)) (now (lens .entry))) (now (sealed .entry))) 0 0 slots ⌝ }
     ensures text { λ r. ⌜ (r .slot < slots → now (scratch .exit) ≡ put (now (scratch .entry)) 0 (opened (slotKey «key_len» (now (ring .entry)) (r .slot)) (now (sealed .entry)))) ⌝ }
     ensures rest { λ _. ⌜ drop (length (now (sealed .entry)) - 16) (now (scratch .exit)) ≡ drop (length (now (sealed .entry)) - 16) (now (scratch .entry)) ⌝ }
 {
     let engine = aes::engine();
-    let v = octets::load(sealed, 0);
-    let ciphertext = &sealed[TAG_LEN..];
     let mut left = slots;
     let mut work = 0;
     let slot = loop {
@@ -77,17 +66,7 @@ fn first_slot(
             break slots;
         }
         let slot = slots - left;
-        let tried = opens_slot(
-            &engine,
-            key_len,
-            ring,
-            slot,
-            header,
-            lens,
-            v,
-            ciphertext,
-            scratch,
-        );
+        let tried = opens_slot(&engine, key_len, ring, slot, header, lens, sealed, scratch);
         work = work + tried.work;
         if tried.genuine {
             break slot;

@@ -3,7 +3,7 @@ ghost use mathlib.Core.Path.{_≡_};
 ghost use mathlib.Core.Bool.{true, cond};
 ghost use Prim.Native.Nat.{ℕ, _+_, _≤_};
 ghost use lib.ListN.{length, take, replicate};
-ghost use Rattle.octets.specs.Octets.{put, same};
+ghost use Rattle.octets.specs.Octets.{put};
 ghost use Rattle.aes.specs.Cipher.{cipher};
 ghost use Rattle.aes.specs.Engine.{Ready};
 ghost use Rattle.aes.specs.Work.{Reports};
@@ -98,40 +98,23 @@ pub fn opens(
     key: &[u8],
     header: &[u8],
     lens: &[u32],
-    v: Block,
-    ciphertext: &[u8],
+    sealed: &[u8],
     scratch: &mut [u8],
 ) -> Tried
-    requires { ⌜ Ready (now engine) × Usable (now key) (now header) (now lens) × (length (now ciphertext) ≤ length (now scratch)) ⌝ }
-    ensures judged { λ r. ⌜ r .genuine ≡ same (tagOf (now (key .entry)) (strings (now (header .entry)) (now (lens .entry))) (streamed (now (key .entry)) v (now (ciphertext .entry)))) v ⌝ }
-    ensures work { λ r. ⌜ r .work ≡ streamedWork (now (ciphertext .entry)) + tagOfWork (now (key .entry)) (strings (now (header .entry)) (now (lens .entry))) (streamed (now (key .entry)) v (now (ciphertext .entry))) ⌝ }
-    ensures text { λ _. ⌜ now (scratch .exit) ≡ put (now (scratch .entry)) 0 (streamed (now (key .entry)) v (now (ciphertext .entry))) ⌝ }
+    requires { ⌜ Ready (now engine) × Usable (now key) (now header) (now lens) × (16 ≤ length (now sealed)) × (length (now sealed) ≤ 16 + length (now scratch)) ⌝ }
+    ensures judged { λ r. ⌜ r .genuine ≡ genuine (now (key .entry)) (strings (now (header .entry)) (now (lens .entry))) (now (sealed .entry)) ⌝ }
+    ensures work { λ r. ⌜ r .work ≡ genuineWork (now (key .entry)) (strings (now (header .entry)) (now (lens .entry))) (now (sealed .entry)) ⌝ }
+    ensures text { λ _. ⌜ now (scratch .exit) ≡ put (now (scratch .entry)) 0 (opened (now (key .entry)) (now (sealed .entry))) ⌝ }
 {
-    let work = stream(engine, key, v, ciphertext, scratch, 0);
-    let tag = tag_of(engine, key, header, lens, &scratch[0..ciphertext.len()]);
+    let v = octets::load(sealed, 0);
+    let n = sealed.len() - TAG_LEN;
+    let work = stream(engine, key, v, &sealed[TAG_LEN..], scratch, 0);
+    let tag = tag_of(engine, key, header, lens, &scratch[0..n]);
     let t = tag.block;
     Tried {
         genuine: octets::same_block(t, v),
         work: work + tag.work,
     }
-}
-
-// Opens an admitted string under one key, with a table of its own.
-pub(crate) fn open_admitted(
-    key: &[u8],
-    header: &[u8],
-    lens: &[u32],
-    sealed: &[u8],
-    scratch: &mut [u8],
-) -> Tried
-    requires { ⌜ Usable (now key) (now header) (now lens) × (16 ≤ length (now sealed)) × (length (now sealed) ≤ 16 + length (now scratch)) ⌝ }
-    ensures judged { λ r. ⌜ r .genuine ≡ genuine (now (key .entry)) (strings (now (header .entry)) (now (lens .entry))) (now (sealed .entry)) ⌝ }
-    ensures work { λ r. ⌜ r .work ≡ genuineWork (now (key .entry)) (strings (now (header .entry)) (now (lens .entry))) (now (sealed .entry)) ⌝ }
-    ensures text { λ _. ⌜ now (scratch .exit) ≡ put (now (scratch .entry)) 0 (opened (now (key .entry)) (now (sealed .entry))) ⌝ }
-{
-    let engine = aes::engine();
-    let v = octets::load(sealed, 0);
-    opens(&engine, key, header, lens, v, &sealed[TAG_LEN..], scratch)
 }
 
 // Ends an opening of n bytes: what scratch has of them to the front of output if it is genuine, or zeros; then zeros over the scratch.

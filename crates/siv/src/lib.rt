@@ -60,7 +60,8 @@ pub fn open(
     if let Answer::Refused(_) = answer {
         return Report { answer, work: 0 };
     }
-    let tried = admitted::open_admitted(key, header, lens, input, scratch);
+    let engine = aes::engine();
+    let tried = admitted::opens(&engine, key, header, lens, input, scratch);
     Report {
         answer: admitted::deliver(tried.genuine, y - TAG_LEN, output, scratch),
         work: tried.work,

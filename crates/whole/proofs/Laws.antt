@@ -11,7 +11,7 @@ use lib.Dec.{eqb, ltb}
 use lib.ListN.{length, take, drop, replicate, length-drop, length-replicate}
 use lib.Seq.{length-take-le, drop-at, drop-drop}
 use borrow.Author.Tests.{eqb-true, ne-eqb, lt-ltb, le-ltb, ltb-false, not-false}
-use Rattle.octets.specs.Octets.{put, same}
+use Rattle.octets.specs.Octets.{put}
 use Rattle.octets.proofs.Strings.{take-put, put-put}
 use Rattle.aes.specs.Aes.{isWidth, aes}
 use Rattle.aes.specs.Cipher.{cipher}
@@ -207,16 +207,6 @@ length-opened key y = length-streamed key (take 16 y) (drop 16 y) ∙ length-dro
 pub opened-by : (key y : List ℕ) {v ciphertext : List ℕ} → v ≡ take 16 y → ciphertext ≡ drop 16 y → streamed key v ciphertext ≡ opened key y
 unfolding opened
 opened-by key y p q = ap₂ (streamed key) p q
-
-pub genuine-by : (key : List ℕ) (ss : List (List ℕ)) (y : List ℕ) {v ciphertext : List ℕ} → v ≡ take 16 y → ciphertext ≡ drop 16 y
-    → same (tagOf key ss (streamed key v ciphertext)) v ≡ genuine key ss y
-unfolding genuine
-genuine-by key ss y p q = ap₂ (λ (x w : List ℕ). same (tagOf key ss x) w) (opened-by key y p q) p
-
-pub genuine-work-by : (key : List ℕ) (ss : List (List ℕ)) (y : List ℕ) {v ciphertext : List ℕ} → v ≡ take 16 y → ciphertext ≡ drop 16 y
-    → streamedWork ciphertext + tagOfWork key ss (streamed key v ciphertext) ≡ genuineWork key ss y
-unfolding genuineWork
-genuine-work-by key ss y p q = ap₂ (λ (c x : List ℕ). streamedWork c + tagOfWork key ss x) q (opened-by key y p q)
 
 -- a string, read off the front that it was written to
 pub text-read : (text scratch : List ℕ) {used : List ℕ} {n : ℕ} → used ≡ put scratch 0 text → n ≡ length text → length text ≤ length scratch → take n used ≡ text

@@ -9,6 +9,7 @@ use lib.ListN.{length}
 use denote.Ref.{now}
 use Rattle.octets.specs.Octets.{part}
 use Rattle.answers.specs.Answer.{Row, row, first}
+use Rattle.whole.specs.declared.Found.{Found}
 use Rattle.whole.specs.declared.RingAnswer.{RingAnswer}
 use Rattle.whole.specs.Calls.{isKeyLength, CallResult, refusedCall, DidCall, openCall, Lent}
 
@@ -23,15 +24,18 @@ slotCount keyLength n = n / keyLength
 abbrev pub slotKey : ℕ → List ℕ → ℕ → List ℕ
 slotKey keyLength ring i = part ring (i * keyLength) keyLength
 
--- the first of the n slots from i on that passes a test, or the one after them
-abbrev pub firstSlot : (ℕ → Bool) → ℕ → ℕ → ℕ
-firstSlot test i zero = i
-firstSlot test i (suc n) = cond (test i) i (firstSlot test (suc i) n)
+-- tries the n slots from i on, after those before them took a sum of work: ends at the first that passes a test, or behind them, with the work of all that were tried
+abbrev pub trySlots : (ℕ → Bool) → (ℕ → ℕ) → ℕ → ℕ → ℕ → Found
+trySlots test work i sum zero = record { slot = i; work = sum }
+trySlots test work i sum (suc n) = cond (test i) (record { slot = i; work = sum + work i }) (trySlots test work (suc i) (sum + work i) n)
 
 -- the sum of a work over the slots that are tried, of the n from i on: up to the first that passes the test, and it too
 abbrev pub triedWork : (ℕ → Bool) → (ℕ → ℕ) → ℕ → ℕ → ℕ
-triedWork test work i zero = 0
-triedWork test work i (suc n) = work i + cond (test i) 0 (triedWork test work (suc i) n)
+triedWork test work i n = trySlots test work i 0 n .work
+
+-- the slot that is given where n were tried: the one that passed, or slot 0
+abbrev pub givenSlot : Found → ℕ → ℕ
+givenSlot found n = cond (ltb (found .slot) n) (found .slot) 0
 
 -- the refusals that judge the stated key length and the ring
 abbrev pub ringRows : ℕ → ℕ → List Row
@@ -78,9 +82,9 @@ module _ (keyLength : ℕ) (ring bytes lens input output scratch : List ℕ) whe
   openRing =
       let refusal = first (ringRows keyLength (length ring)) in
       let count = slotCount keyLength (length ring) in
-      let found = firstSlot opensAt 0 count in
-      let slot = cond (ltb found count) found 0 in
-      cond (eqb refusal 0) (record { slot = slot; call = openSlotWith slot (triedWork opensAt workAt 0 count) }) (refusedRing refusal output scratch)
+      let found = trySlots opensAt workAt 0 0 count in
+      let slot = givenSlot found count in
+      cond (eqb refusal 0) (record { slot = slot; call = openSlotWith slot (found .work) }) (refusedRing refusal output scratch)
 
 -- what a ring's call promises: with what the lent slices held at entry, its answer, slot and what output and scratch hold at exit are the definition's
 abbrev pub PerformsRing : ℕ → Lent → Lent → Lent → Lent → Lent → Lent → RingAnswer → Type 0

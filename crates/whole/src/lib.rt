@@ -13,3 +13,9 @@ pub struct RingAnswer {
     pub slot: usize,
     pub work: usize,
 }
+
+// Where trying the slots of a ring ended, the first whose key opens, or the number of slots where none does; and the work for all keys that were tried.
+pub struct Found {
+    pub slot: usize,
+    pub work: usize,
+}

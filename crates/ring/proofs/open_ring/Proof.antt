@@ -1,6 +1,6 @@
 -- `ring::open_ring` meets its contract.
 -- Assumes nothing.
-use mathlib.Core.Path.{_≡_, ap, sym}
+use mathlib.Core.Path.{_≡_, refl, ap, sym}
 use mathlib.Core.Bool.{Bool, true, cond}
 use Prim.Native.Nat.{ℕ, _-_}
 use native.Mathlib.Omega.{arith}
@@ -88,8 +88,8 @@ returns-2 c =
     let done = c .before .before .before .before .before in
     let searched = done .before .before .before .before .before in
     let search = searched .first-slot .ensures in
-    ring-delivered _ _ _ _ _ _ _ (judged (searched .before .before .before)) _ (search .0) _ _ _ _ (sym (ap (λ (t : Bool). cond t (searched .first-slot .result .slot) 0) (lt-ltb _ _ (c .if1 .taken))))
-    (search .1 .1 .0) (search .1 .0) (told done) (done .deliver .ensures .1 .0) (search .1 .1 .1) (done .deliver .ensures .1 .1)
+    ring-delivered _ _ _ _ _ _ _ (judged (searched .before .before .before)) _ (search .0) _ _ _ _ (sym (ap (λ (t : Bool). cond t (searched .first-slot .result .slot) 0) (lt-ltb _ _ (c .if1 .taken)))) refl
+    (search .1 .0) (told done) (done .deliver .ensures .1 .0) (search .1 .1) (done .deliver .ensures .1 .1)
 
 same-length-3 : tie.Need-same-length-3
 same-length-3 c = search needs
@@ -102,8 +102,8 @@ returns-3 c =
     let done = c .before .before .before .before .before in
     let searched = done .before .before .before .before .before in
     let search = searched .first-slot .ensures in
-    ring-delivered _ _ _ _ _ _ _ (judged (searched .before .before .before)) _ (search .0) _ _ _ _ (sym (ap (λ (t : Bool). cond t (searched .first-slot .result .slot) 0) (le-ltb _ _ (c .if1 .left))))
-    (search .1 .1 .0) (search .1 .0) (told done) (done .deliver .ensures .1 .0) (search .1 .1 .1) (done .deliver .ensures .1 .1)
+    ring-delivered _ _ _ _ _ _ _ (judged (searched .before .before .before)) _ (search .0) _ _ _ _ (sym (ap (λ (t : Bool). cond t (searched .first-slot .result .slot) 0) (le-ltb _ _ (c .if1 .left)))) refl
+    (search .1 .0) (told done) (done .deliver .ensures .1 .0) (search .1 .1) (done .deliver .ensures .1 .1)
 
 pub open-ring-spec : {M : Type 1} → statement M
 open-ring-spec =

@@ -34,18 +34,21 @@ returns c = open-refused _ _ _ _ _ _ _ (told-refused (c .before .before .judge-o
 enum-told-2 : tie.Need-enum-told-2
 enum-told-2 c = search needs
 
-open-admitted-requires : tie.Need-open-admitted-requires
-open-admitted-requires c κs =
-    let a = admits (c .before .before) in
-    ((a .keyed, omega (arith, a .listed), a .few), a .tagged, omega (arith, a .scratchy))
+engine-requires : tie.Need-engine-requires
+engine-requires c κs = search needs
+
+opens-requires : tie.Need-opens-requires
+opens-requires c κs =
+    let a = admits (c .before .before .before .before) in
+    (c .before .before .engine .ensures, (a .keyed, omega (arith, a .listed), a .few), a .tagged, omega (arith, a .scratchy))
 
 sub-deliver : tie.Need-sub-deliver
-sub-deliver c = admits (c .before .before .before .before .before) .tagged
+sub-deliver c = admits (c .before .before .before .before .before .before .before) .tagged
 
 deliver-requires : tie.Need-deliver-requires
 deliver-requires c κs =
-    let a = admits (c .before .before .before .before .before .before .before) in
-    (a .roomy, omega (arith, a .scratchy, c .before .before .before .before .open-admitted .kept .1 .1 .1 .1 .0))
+    let a = admits (c .before .before .before .before .before .before .before .before .before) in
+    (a .roomy, omega (arith, a .scratchy, c .before .before .before .before .opens .kept .1 .1 .1 .1 .1 .0))
 
 same-length : tie.Need-same-length
 same-length c = search needs
@@ -57,15 +60,15 @@ returns-2 : tie.Need-returns-2
 returns-2 c =
     let done = c .before .before .before .before in
     let opening = done .before .before .before .before .before in
-    let matched = opening .before .before .before in
+    let matched = opening .before .before .before .before .before in
     let args = matched .before .before .before .before .before .before .before .before .args in
     let key = args .key .now in
     let y = args .input .now in
     let text = opened key y in
     let long : length text ≡ length y - 16 = length-opened key y in
-    let used = opening .open-admitted .last .1 .1 .1 .1 .0 in
-    let tried = opening .open-admitted .ensures in
-    open-delivered _ _ _ _ _ _ (opening .open-admitted .result .genuine) (sym (tried .0)) (judged matched) _ _ _ _ (done .deliver .ensures .0) (tried .1 .0)
+    let used = opening .opens .last .1 .1 .1 .1 .1 .0 in
+    let tried = opening .opens .ensures in
+    open-delivered _ _ _ _ _ _ (opening .opens .result .genuine) (sym (tried .0)) (judged matched) _ _ _ _ (done .deliver .ensures .0) (tried .1 .0)
     (λ _. text-read text (args .scratch .now) (tried .1 .1) (sym long) (omega (arith, long, admits matched .scratchy))) (done .deliver .ensures .1 .0)
     (scratch-wiped (args .scratch .now) used (length y - 16) (put-rest (args .scratch .now) text (tried .1 .1) (sym long)) (done .deliver .ensures .1 .1))
 
@@ -77,7 +80,8 @@ open-spec =
     enum-told
     returns
     enum-told-2
-    open-admitted-requires
+    engine-requires
+    opens-requires
     sub-deliver
     deliver-requires
     same-length

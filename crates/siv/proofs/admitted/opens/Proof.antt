@@ -1,22 +1,48 @@
 -- `siv::admitted::opens` meets its contract.
 -- Assumes nothing.
-use mathlib.Core.Path.{ap, ap₂, _∙_}
+use mathlib.Core.Path.{_≡_, ap, ap₂, _∙_}
 use Prim.Native.Nat.{_+_, _-_, _<_, _^_}
 use native.Mathlib.Omega.{arith}
 use lib.ListN.{length}
 use borrow.Author.Needs.{needs}
-use Rattle.octets.specs.Octets.{same}
+use Rattle.octets.specs.Octets.{put, same}
+use Rattle.octets.proofs.Strings.{part-rest}
 use Rattle.aes.specs.Work.{Reports}
 use Rattle.header.specs.Header.{strings}
 use Rattle.header.proofs.Laws.{blocks-most}
-use Rattle.whole.specs.Siv.{tagOf, tagOfWork, streamed}
-use Rattle.whole.proofs.Laws.{length-streamed, text-read}
-use Rattle.whole.proofs.Lengths.{tag-of-lengths, streamed-lengths}
+use Rattle.whole.specs.Siv.{tagOf, tagOfWork, streamedWork, opened, genuine, genuineWork}
+use Rattle.whole.proofs.Laws.{length-opened, opened-by, text-read}
+use Rattle.whole.proofs.Lengths.{genuine-lengths}
 use Rattle.siv.proofs.admitted.opens.Statement.{statement}
 use Rattle.siv.proofs.admitted.opens.Tie as tie
 
+load-requires : tie.Need-load-requires
+load-requires c κs = search needs
+
+sub-n : tie.Need-sub-n
+sub-n c = search needs
+
+sub-stream : tie.Need-sub-stream
+sub-stream c = search needs
+
+part-stream-start : tie.Need-part-stream-start
+part-stream-start c = search needs
+
+part-stream-end : tie.Need-part-stream-end
+part-stream-end c = search needs
+
 stream-requires : tie.Need-stream-requires
 stream-requires c κs = search needs
+
+-- what is written to the scratch is the plaintext
+written : (c : tie.After-stream)
+    → let args = c .before .before .before .before .before .before .before .before .before .args in
+    c .stream .last .1 .1 .1 .1 .0 ≡ put (args .scratch .now) 0 (opened (args .key .now) (args .sealed .now))
+written c =
+    let loaded = c .before .before .before in
+    let args = loaded .before .before .before .before .before .before .args in
+    let y = args .sealed .now in
+    c .stream .ensures .1 ∙ ap (put (args .scratch .now) 0) (opened-by (args .key .now) y (loaded .load .ensures) (part-rest y 16))
 
 sub-tag-of : tie.Need-sub-tag-of
 sub-tag-of c = search needs
@@ -36,51 +62,65 @@ same-block-requires c κs = search needs
 same-length : tie.Need-same-length
 same-length c = search needs
 
-short-header : (start : tie.Start) → length (start .args .header .now) < 2 ^ 64
-short-header start = search needs
-
-short-text : (start : tie.Start) → length (start .args .ciphertext .now) < 2 ^ 64
-short-text start = search needs
-
--- the tag is that of what was written to the scratch
+-- the tag is the plaintext's
 tagged : (c : tie.After-tag-of)
-    → let args = c .before .before .before .before .before .before .before .before .before .before .before .before .args in
+    → let args = c .before .before .before .before .before .before .before .before .before .before .before .before .before .before .args in
     let ss = strings (args .header .now) (args .lens .now) in
-    let text = streamed (args .key .now) (args .v) (args .ciphertext .now) in
+    let text = opened (args .key .now) (args .sealed .now) in
     Reports (tagOf (args .key .now) ss text) (tagOfWork (args .key .now) ss text) (c .tag-of .result)
 tagged c =
-    let args = c .before .before .before .before .before .before .before .before .before .before .before .before .args in
+    let args = c .before .before .before .before .before .before .before .before .before .before .before .before .before .before .args in
     let ss = strings (args .header .now) (args .lens .now) in
-    let text = streamed (args .key .now) (args .v) (args .ciphertext .now) in
-    let long = length-streamed (args .key .now) (args .v) (args .ciphertext .now) in
-    let read = text-read text (args .scratch .now) {n = length (args .ciphertext .now) - 0} (c .before .before .before .before .before .stream .ensures .1) (omega (arith, long)) (omega (arith, long)) in
+    let text = opened (args .key .now) (args .sealed .now) in
+    let long = length-opened (args .key .now) (args .sealed .now) in
+    let read = text-read text (args .scratch .now) {n = length (args .sealed .now) - 16 - 0} (written (c .before .before .before .before .before)) (omega (arith, long)) (omega (arith, long)) in
     let tag = c .tag-of .ensures in
     record { block = tag .block ∙ ap (tagOf (args .key .now) ss) read; work = tag .work ∙ ap (tagOfWork (args .key .now) ss) read }
 
-add-t13 : tie.Need-add-t13
-add-t13 c =
-    let start = c .before .before .before .before .before .before .before .before .before .before .before .before .before .before .before in
+-- both works are that of telling
+worked : (c : tie.After-tag-of)
+    → let args = c .before .before .before .before .before .before .before .before .before .before .before .before .before .before .args in
+    c .before .before .before .before .before .stream .result + c .tag-of .result .work ≡ genuineWork (args .key .now) (strings (args .header .now) (args .lens .now)) (args .sealed .now)
+unfolding genuineWork
+worked c =
+    let y = c .before .before .before .before .before .before .before .before .before .before .before .before .before .before .args .sealed .now in
+    ap₂ _+_ (c .before .before .before .before .before .stream .ensures .0 ∙ ap streamedWork (part-rest y 16)) (tagged c .work)
+
+short-header : (start : tie.Start) → length (start .args .header .now) < 2 ^ 64
+short-header start = search needs
+
+short-text : (start : tie.Start) → length (start .args .sealed .now) < 2 ^ 64
+short-text start = search needs
+
+add-t12 : tie.Need-add-t12
+add-t12 c =
+    let told = c .before .before .before in
+    let start = told .before .before .before .before .before .before .before .before .before .before .before .before .before .before in
     let args = start .args in
-    let text = streamed (args .key .now) (args .v) (args .ciphertext .now) in
-    omega (arith, c .before .before .before .before .before .before .before .before .stream .ensures .0 ∙ streamed-lengths (args .ciphertext .now), tagged (c .before .before .before) .work ∙ tag-of-lengths (args .key .now) (args .header .now) (args .lens .now) text (start .pre .1 .1), length-streamed (args .key .now) (args .v) (args .ciphertext .now), blocks-most (args .lens .now), start .pre .1 .1, start .pre .1 .2, short-header start, short-text start)
+    omega (arith, worked told ∙ genuine-lengths (args .key .now) (args .header .now) (args .lens .now) (args .sealed .now) (start .pre .1 .1), blocks-most (args .lens .now), start .pre .1 .1, start .pre .1 .2, short-header start, short-text start)
 
 returns : tie.Need-returns
+unfolding genuine
 returns c =
-    let args = c .before .before .before .before .before .before .before .before .before .before .before .before .before .before .before .args in
-    let written = c .before .before .before .before .before .before .before .before .stream .ensures in
-    let tag = tagged (c .before .before .before) in
-    (c .before .same-block .ensures ∙ ap (λ t. same t (args .v)) (tag .block), (ap₂ _+_ (written .0) (tag .work), written .1))
+    let told = c .before .before .before in
+    let sent = told .before .before .before .before .before .before .before .before .load .ensures in
+    (c .before .same-block .ensures ∙ ap₂ same (tagged told .block) sent, (worked told, written (told .before .before .before .before .before)))
 
 pub opens-spec : {M : Type 1} → statement M
 opens-spec =
     tie.close
     (tie.spec
+    load-requires
+    sub-n
+    sub-stream
+    part-stream-start
+    part-stream-end
     stream-requires
     sub-tag-of
     part-tag-of-start
     part-tag-of-end
     tag-of-requires
     same-block-requires
-    add-t13
+    add-t12
     same-length
     returns)

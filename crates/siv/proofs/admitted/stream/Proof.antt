@@ -11,10 +11,9 @@ use Rattle.octets.proofs.Strings.{part-rest}
 use Rattle.aes.specs.Aes.{isWidth}
 use Rattle.aes.specs.KeyExpansion.{roundKeys}
 use Rattle.aes.proofs.Widths.{length-cipher}
-use Rattle.ctr.specs.Counter.{xorStream}
 use Rattle.ctr.proofs.Laws.{pieceWork-fresh, xorPiece-fresh}
-use Rattle.whole.specs.Siv.{ctrKey, streamed, streamedWork}
-use Rattle.whole.proofs.Laws.{KeyHalves, halves, aes-cipher}
+use Rattle.whole.specs.Siv.{streamedWork}
+use Rattle.whole.proofs.Laws.{KeyHalves, halves, stream-by-half}
 use Rattle.siv.proofs.admitted.stream.Statement.{statement}
 use Rattle.siv.proofs.admitted.stream.Tie as tie
 
@@ -45,19 +44,17 @@ same-length : tie.Need-same-length
 same-length c = search needs
 
 returns : tie.Need-returns
-unfolding streamed streamedWork
+unfolding streamedWork
 returns c =
     let start = c .before .before .before .before .before .before .before .before .before .before in
     let args = start .args in
     let key = args .key .now in
-    let h : KeyHalves (length key) = halves _ (start .pre .1) in
-    let long : length key / 2 ≡ length (ctrKey key) = simp length-drop (omega arith) in
     let keys = c .before .before .before .before .before .round-keys .ensures ∙ ap roundKeys (part-rest key (length key / 2)) in
     let wrote = c .before .before .xor-from .ensures in (
       wrote .0 .work ∙ pieceWork-fresh 0 (length (args .src .now)),
       wrote .1
           ∙ ap (put (args .dst .now) (args .at)) (xorPiece-fresh _ (length-cipher _ _) (args .v) 0 (args .src .now))
-          ∙ ap (λ (E : List ℕ → List ℕ). put (args .dst .now) (args .at) (xorStream E (args .v) 0 (args .src .now))) (aes-cipher (ctrKey key) long keys),
+          ∙ ap (put (args .dst .now) (args .at)) (stream-by-half key (start .pre .1) (args .v) (args .src .now) keys),
     )
 
 pub stream-spec : {M : Type 1} → statement M

@@ -11,9 +11,7 @@ use borrow.Author.Needs.{needs}
 use Rattle.aes.specs.Aes.{isWidth}
 use Rattle.aes.specs.KeyExpansion.{roundKeys}
 use Rattle.header.specs.Header.{strings}
-use Rattle.s2v.specs.S2v.{s2v, s2vWork}
-use Rattle.whole.specs.Siv.{macKey, tagOf, tagOfWork}
-use Rattle.whole.proofs.Laws.{KeyHalves, halves, aes-cipher}
+use Rattle.whole.proofs.Laws.{KeyHalves, halves, tag-by-half, tag-work-by-half}
 use Rattle.siv.proofs.admitted.tag_of.Statement.{statement}
 use Rattle.siv.proofs.admitted.tag_of.Tie as tie
 
@@ -41,19 +39,15 @@ tag-under-requires c κs =
     (search needs, h .most, start .pre .1 .1, start .pre .1 .2)
 
 returns : tie.Need-returns
-unfolding tagOf tagOfWork
 returns c =
     let start = c .before .before .before .before .before .before .before .before in
     let key = start .args .key .now in
     let ss = strings (start .args .header .now) (start .args .lens .now) in
-    let h : KeyHalves (length key) = halves _ (start .pre .1 .0) in
-    let long : length key / 2 ≡ length (macKey key) = sym (length-take-le _ key (omega arith)) in
     let keys = c .before .before .round-keys .ensures ∙ ap (λ (n : ℕ). roundKeys (take n key)) (sub-zero (length key / 2)) in
     let under = c .tag-under .ensures in
-    let is-aes = aes-cipher (macKey key) long keys in
     record {
-      block = under .block ∙ ap (λ (E : List ℕ → List ℕ). s2v E ss (start .args .p .now)) is-aes;
-      work = under .work ∙ ap (λ (E : List ℕ → List ℕ). s2vWork E ss (start .args .p .now)) is-aes;
+      block = under .block ∙ tag-by-half key (start .pre .1 .0) ss (start .args .p .now) keys;
+      work = under .work ∙ tag-work-by-half key (start .pre .1 .0) ss (start .args .p .now) keys;
     }
 
 pub tag-of-spec : {M : Type 1} → statement M
