@@ -26,7 +26,7 @@ use Rattle.answers.specs.Answer.{Outcome, Row, row, first, outcomeOf, success, 
 use Rattle.answers.proofs.Laws.{first-not, first-pass, first-stop, first-none, none-where, not-due}
 use Rattle.whole.specs.declared.Report.{Report}
 use Rattle.whole.specs.Calls.{isKeyLength, limit, scratchNeed, headerRows, sealRows, openRows, Usable, DidCall, sealNumber, sealCall, openNumber, openCall}
-use Rattle.whole.specs.Siv.{tagOf, tagOfWork, streamed, streamedWork, sealed, sealedWork, opened, genuine, genuineWork}
+use Rattle.whole.specs.Siv.{tagOf, tagOfWork, streamed, sealed, sealedWork, opened, genuine, genuineWork}
 
 -- ---- keys
 

@@ -1,7 +1,7 @@
 -- Laws of a ring of keys.
 -- Assumes nothing.
 use mathlib.Core.Path.{_≡_, refl, ap, ap₂, sym, subst, _∙_}
-use mathlib.Core.Bool.{Bool, true, false, false≢true, cond, _||_, or-true}
+use mathlib.Core.Bool.{Bool, true, false, false≢true, not, cond, _||_, or-true}
 use mathlib.Core.List.{List, _++_}
 use Prim.Native.Nat.{ℕ, zero, suc, _+_, _-_, _*_, _≤_, _<_}
 use native.Mathlib.Decide.{ℕ-discrete, decLt}
@@ -18,7 +18,7 @@ use Rattle.answers.specs.Answer.{Outcome, Row, first, outcomeOf, success, numbe
 use Rattle.answers.proofs.Laws.{first-none, first-pass, first-stop, outcome-with}
 use Rattle.whole.specs.declared.Found.{Found}
 use Rattle.whole.specs.declared.RingAnswer.{RingAnswer}
-use Rattle.whole.specs.Calls.{isKeyLength, limit, scratchNeed, headerRows, openRows, DidCall}
+use Rattle.whole.specs.Calls.{isKeyLength, limit, scratchNeed, headerRows, openRows}
 use Rattle.whole.specs.Ring.{isRing, slotCount, slotKey, trySlots, triedWork, givenSlot, ringRows, RingResult, refusedRing, DidRing, openSlot, opensAt, workAt, openSlotWith, openRing}
 use Rattle.whole.specs.Siv.{opened, genuine, genuineWork}
 use Rattle.whole.specs.Work.{blockWork}
@@ -33,10 +33,10 @@ key-length-some zero e = absurd (false≢true e)
 key-length-some (suc n) e = omega arith
 
 -- the stated key length is judged before the ring
-pub ring-key-due : (keyLength n : ℕ) → isKeyLength keyLength ≡ false → first (ringRows keyLength n) ≡ 1
+pub ring-key-due : (keyLength n : ℕ) → not (isKeyLength keyLength) ≡ true → first (ringRows keyLength n) ≡ 1
 ring-key-due keyLength n e = simp e
 
-pub ring-due : (keyLength n : ℕ) → isKeyLength keyLength ≡ true → isRing keyLength n ≡ false → first (ringRows keyLength n) ≡ 11
+pub ring-due : (keyLength n : ℕ) → not (isKeyLength keyLength) ≡ false → isRing keyLength n ≡ false → first (ringRows keyLength n) ≡ 11
 ring-due keyLength n e k = simp (e, k)
 
 -- a slot's bytes of the ring are its key

@@ -2,15 +2,14 @@
 -- Assumes nothing.
 use mathlib.Core.Path.{ap, _∙_}
 use mathlib.Core.List.{List}
-use Prim.Native.Nat.{ℕ, _*_}
+use Prim.Native.Nat.{ℕ}
 use lib.ListN.{length}
 use borrow.Author.Needs.{needs}
 use Rattle.octets.specs.Octets.{put}
-use Rattle.octets.proofs.Strings.{length-part, part-to}
 use Rattle.header.specs.Header.{strings}
 use Rattle.whole.specs.Calls.{isKeyLength}
 use Rattle.whole.specs.Siv.{opened, genuine, genuineWork}
-use Rattle.whole.proofs.Ring.{slot-read}
+use Rattle.whole.proofs.Ring.{length-slotKey, slot-read}
 use Rattle.ring.proofs.opens_slot.Statement.{statement}
 use Rattle.ring.proofs.opens_slot.Tie as tie
 
@@ -34,8 +33,7 @@ opens-requires c κs =
     let start = c .before .before .before .before .before .before .before in
     let ring = start .args .ring .now in
     let k = start .args .key-len in
-    let at = start .args .slot * k in
-    (start .pre .0, (ap isKeyLength (ap length (part-to ring at k) ∙ length-part ring at k (start .pre .2)) ∙ start .pre .1, start .pre .3, start .pre .4), start .pre .5, start .pre .6)
+    (start .pre .0, (ap isKeyLength (ap length (slot-read k ring (start .args .slot)) ∙ length-slotKey k ring (start .args .slot) (start .pre .2)) ∙ start .pre .1, start .pre .3, start .pre .4), start .pre .5, start .pre .6)
 
 same-length : tie.Need-same-length
 same-length c = search needs
@@ -46,7 +44,7 @@ returns c =
     let ss = strings (args .header .now) (args .lens .now) in
     let y = args .sealed .now in
     let tried = c .before .before .opens .ensures in
-    let keyed = part-to (args .ring .now) (args .slot * args .key-len) (args .key-len) in (
+    let keyed = slot-read (args .key-len) (args .ring .now) (args .slot) in (
       tried .0 ∙ ap (λ (k : List ℕ). genuine k ss y) keyed,
       (tried .1 .0 ∙ ap (λ (k : List ℕ). genuineWork k ss y) keyed, tried .1 .1 ∙ ap (λ (k : List ℕ). put (args .scratch .now) 0 (opened k y)) keyed),
     )
