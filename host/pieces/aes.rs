@@ -1,7 +1,7 @@
 //! AES below the modes, by libcrypto: the round keys of a key, and the cipher under any round keys, whose calls are counted.
 
 use shared::check;
-use shared::mac::Block;
+use shared::mac::{Block, BlockCipher};
 use std::ffi::c_int;
 use std::sync::atomic::{AtomicU64, Ordering};
 
@@ -45,15 +45,17 @@ impl Cipher {
         Cipher(Schedule { round_keys: round_keys.try_into().unwrap(), rounds: (width / 4 + 6) as c_int })
     }
 
-    pub fn block(&self, block: Block) -> Block {
+    /// The cipher on each block of a string.
+    pub fn blocks(&self, blocks: &[u8]) -> Vec<u8> {
+        blocks.chunks(16).flat_map(|block| self.block(block.try_into().unwrap())).collect()
+    }
+}
+
+impl BlockCipher for Cipher {
+    fn block(&self, block: Block) -> Block {
         let mut out = [0; 16];
         BLOCKS.fetch_add(1, Ordering::Relaxed);
         unsafe { AES_encrypt(block.as_ptr(), out.as_mut_ptr(), &self.0) };
         out
-    }
-
-    /// The cipher on each block of a string.
-    pub fn blocks(&self, blocks: &[u8]) -> Vec<u8> {
-        blocks.chunks(16).flat_map(|block| self.block(block.try_into().unwrap())).collect()
     }
 }

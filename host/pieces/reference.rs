@@ -3,50 +3,11 @@
 use crate::aes::{self, Cipher};
 use crate::counter;
 use shared::library::TAG_LEN;
-use shared::mac::{double, last_block, pad, subkey, xor, Block};
-
-/// A cipher for CMAC, and L, which it makes once.
-pub struct Mac {
-    pub cipher: Cipher,
-    pub l: Block,
-}
-
-impl Mac {
-    fn new(cipher: Cipher) -> Mac {
-        let l = cipher.block([0; 16]);
-        Mac { cipher, l }
-    }
-
-    /// The chain over whole blocks more.
-    pub fn chain(&self, chain: Block, blocks: &[u8]) -> Block {
-        blocks.chunks(16).fold(chain, |chain, block| self.cipher.block(xor(&chain, block)))
-    }
-
-    /// CMAC of a text, where the chain is over what came before the text.
-    pub fn cmac(&self, chain: Block, text: &[u8]) -> Block {
-        let (front, last) = text.split_at(last_block(text.len()));
-        let chain = self.chain(chain, front);
-        self.cipher.block(xor(&xor(&pad(last), &subkey(self.l, last)), &chain))
-    }
-
-    /// D over header strings more.
-    pub fn header_result(&self, d: Block, strings: &[&[u8]]) -> Block {
-        strings.iter().fold(d, |d, string| xor(&double(d), &self.cmac([0; 16], string)))
-    }
-
-    /// V: CMAC goes on from the chain over a plaintext's end of 16 bytes or more, or all of it, with D at its end.
-    pub fn tag(&self, d: Block, chain: Block, end: &[u8]) -> Block {
-        let text = match end.len().checked_sub(16) {
-            None => xor(&double(d), &pad(end)).to_vec(),
-            Some(at) => [&end[..at], &xor(&end[at..], &d)].concat(),
-        };
-        self.cmac(chain, &text)
-    }
-}
+use shared::mac::{Block, Mac};
 
 /// What a key and header strings come to.
 pub struct Reference {
-    mac: Mac,
+    mac: Mac<Cipher>,
     ctr: Cipher,
     d: Block,
 }
@@ -56,13 +17,13 @@ impl Reference {
         let cipher = |half: &[u8]| Cipher::new(half.len() as u64, &aes::round_keys(half));
         let (mac_key, ctr_key) = key.split_at(key.len() / 2);
         let mac = Mac::new(cipher(mac_key));
-        let d = mac.cmac([0; 16], &[0; 16]);
-        Reference { mac, ctr: cipher(ctr_key), d }.extended(strings)
+        let d = mac.header_result(strings);
+        Reference { mac, ctr: cipher(ctr_key), d }
     }
 
     /// With header strings more.
     pub fn extended(self, strings: &[&[u8]]) -> Reference {
-        Reference { d: self.mac.header_result(self.d, strings), ..self }
+        Reference { d: self.mac.extended(self.d, strings), ..self }
     }
 
     fn tag(&self, plain: &[u8]) -> Block {

@@ -5,10 +5,9 @@
 use crate::aes::{self, Cipher};
 use crate::call::{Call, Kind};
 use crate::counter;
-use crate::reference::Mac;
 use crate::state::{tail_len, Field, Field::*, State};
 use shared::library::{LIMIT, TAG_LEN};
-use shared::mac::Block;
+use shared::mac::{Block, BlockCipher, Mac};
 use shared::probe::{Answer, Report};
 
 /// The key widths.
@@ -69,13 +68,13 @@ fn cipher(state: &State, keys: Field) -> Cipher {
 }
 
 /// CMAC's cipher with the state's L.
-fn mac(state: &State) -> Mac {
+fn mac(state: &State) -> Mac<Cipher> {
     Mac { cipher: cipher(state, MacKeys), l: state.block(L) }
 }
 
 /// D over header strings more.
 pub fn header_result(state: &State, strings: &[&[u8]]) -> Block {
-    mac(state).header_result(state.block(D), strings)
+    mac(state).extended(state.block(D), strings)
 }
 
 /// The tag of all that was added or fed.
@@ -103,7 +102,7 @@ fn absorb(state: &mut State, piece: &[u8]) {
     let total = old + piece.len() as u64;
     let text = [&state.get(Tail)[..tail_len(old)], piece].concat();
     let (passed, tail) = text.split_at(text.len() - tail_len(total));
-    let chain = mac(state).chain(state.block(Chain), passed);
+    let chain = cipher(state, MacKeys).chain(state.block(Chain), passed);
     state.set(Chain, &chain);
     state.set_number(Total, total);
     state.set_tail(tail);

@@ -2,7 +2,7 @@
 //! what the last block must bring. So a tag with any end is there at once, where a search for four bytes would take hours.
 
 use crate::library::TAG_LEN;
-use crate::mac::{last_block, pad, subkey, xor, Mac};
+use crate::mac::{last_block, pad, subkey, xor, BlockCipher, Mac};
 use crate::peers::Libcrypto;
 use crate::random::Random;
 
@@ -24,17 +24,17 @@ pub fn tag(random: &mut Random, end: &[u8]) -> [u8; TAG_LEN] {
 
 /// Changes one block of `text`, which has at least 32 bytes, so that its tag is `tag`.
 pub fn plaintext(aes: &Libcrypto, key: &[u8], header: &[&[u8]], tag: &[u8; TAG_LEN], mut text: Vec<u8>) -> Vec<u8> {
-    let mac = Mac::new(aes, key);
+    let mac = Mac::new(aes.under(&key[..key.len() / 2]));
 
     // First the string that CMAC is taken of: its last block is `at..`.
     let at = last_block(text.len());
-    let wanted = xor(&mac.cipher(tag, false), &subkey(mac.l(), &text[at..]));
+    let wanted = xor(&mac.cipher.inverse(*tag), &subkey(mac.l, &text[at..]));
     if text.len() - at == 16 {
-        let block = xor(&wanted, &mac.chain(&text[..at]));
+        let block = xor(&wanted, &mac.cipher.chain([0; 16], &text[..at]));
         text[at..].copy_from_slice(&block);
     } else {
         let chained = xor(&wanted, &pad(&text[at..]));
-        let block = xor(&mac.cipher(&chained, false), &mac.chain(&text[..at - 16]));
+        let block = xor(&mac.cipher.inverse(chained), &mac.cipher.chain([0; 16], &text[..at - 16]));
         text[at - 16..at].copy_from_slice(&block);
     }
 

@@ -1,72 +1,79 @@
-//! CMAC's parts and RFC 5297's D by libcrypto's AES, under the first half of an AES-SIV key.
-
-use crate::peers::Libcrypto;
+//! CMAC, and RFC 5297's D and V, over any cipher of blocks.
 
 pub type Block = [u8; 16];
 
 /// The first 16 bytes of two strings.
-pub fn xor(a: &[u8], b: &[u8]) -> Block {
+pub(crate) fn xor(a: &[u8], b: &[u8]) -> Block {
     std::array::from_fn(|i| a[i] ^ b[i])
 }
 
 /// RFC 5297, section 2.3.
-pub fn double(block: Block) -> Block {
+fn double(block: Block) -> Block {
     let shifted = u128::from_be_bytes(block) << 1;
     (shifted ^ if block[0] & 0x80 != 0 { 0x87 } else { 0 }).to_be_bytes()
 }
 
 /// A last block of CMAC: a short one is padded.
-pub fn pad(part: &[u8]) -> Block {
+pub(crate) fn pad(part: &[u8]) -> Block {
     std::array::from_fn(|i| if i < part.len() { part[i] } else if i == part.len() { 0x80 } else { 0 })
 }
 
 /// The subkey for a last block: K1 for a full one, K2 for a short one.
-pub fn subkey(l: Block, last: &[u8]) -> Block {
+pub(crate) fn subkey(l: Block, last: &[u8]) -> Block {
     let k1 = double(l);
     if last.len() == 16 { k1 } else { double(k1) }
 }
 
 /// Where the last block of a text starts; an empty text has an empty last block.
-pub fn last_block(len: usize) -> usize {
+pub(crate) fn last_block(len: usize) -> usize {
     len.saturating_sub(1) / 16 * 16
 }
 
-/// A key for CMAC.
-pub struct Mac<'a> {
-    aes: &'a Libcrypto,
-    key: &'a [u8],
+/// A cipher of blocks under a key.
+pub trait BlockCipher {
+    fn block(&self, block: Block) -> Block;
+
+    /// CMAC's chain over whole blocks more.
+    fn chain(&self, chain: Block, blocks: &[u8]) -> Block {
+        blocks.chunks(16).fold(chain, |chain, block| self.block(xor(&chain, block)))
+    }
 }
 
-impl<'a> Mac<'a> {
-    /// From an AES-SIV key.
-    pub fn new(aes: &'a Libcrypto, key: &'a [u8]) -> Mac<'a> {
-        Mac { aes, key: &key[..key.len() / 2] }
+/// A cipher for CMAC, and L, the cipher of the zero block, which is made once.
+pub struct Mac<C> {
+    pub cipher: C,
+    pub l: Block,
+}
+
+impl<C: BlockCipher> Mac<C> {
+    pub fn new(cipher: C) -> Mac<C> {
+        let l = cipher.block([0; 16]);
+        Mac { cipher, l }
     }
 
-    pub fn cipher(&self, block: &[u8], encrypt: bool) -> Block {
-        self.aes.cbc(self.key, encrypt, block).try_into().unwrap()
-    }
-
-    /// L, the cipher of the zero block.
-    pub fn l(&self) -> Block {
-        self.cipher(&[0; 16], true)
-    }
-
-    /// The chain over whole blocks.
-    pub fn chain(&self, blocks: &[u8]) -> Block {
-        match blocks.len() {
-            0 => [0; 16],
-            len => self.aes.cbc(self.key, true, blocks)[len - 16..].try_into().unwrap(),
-        }
-    }
-
-    fn cmac(&self, text: &[u8]) -> Block {
+    /// CMAC of a text, where the chain is over what came before the text.
+    fn cmac(&self, chain: Block, text: &[u8]) -> Block {
         let (front, last) = text.split_at(last_block(text.len()));
-        self.cipher(&xor(&xor(&pad(last), &subkey(self.l(), last)), &self.chain(front)), true)
+        let chain = self.cipher.chain(chain, front);
+        self.cipher.block(xor(&xor(&pad(last), &subkey(self.l, last)), &chain))
     }
 
     /// D over the header strings.
-    pub fn header_result(&self, header: &[&[u8]]) -> Block {
-        header.iter().fold(self.cmac(&[0; 16]), |d, string| xor(&double(d), &self.cmac(string)))
+    pub fn header_result(&self, strings: &[&[u8]]) -> Block {
+        self.extended(self.cmac([0; 16], &[0; 16]), strings)
+    }
+
+    /// D over header strings more.
+    pub fn extended(&self, d: Block, strings: &[&[u8]]) -> Block {
+        strings.iter().fold(d, |d, string| xor(&double(d), &self.cmac([0; 16], string)))
+    }
+
+    /// V: CMAC goes on from the chain over a plaintext's end of 16 bytes or more, or all of it, with D at its end.
+    pub fn tag(&self, d: Block, chain: Block, end: &[u8]) -> Block {
+        let text = match end.len().checked_sub(16) {
+            None => xor(&double(d), &pad(end)).to_vec(),
+            Some(at) => [&end[..at], &xor(&end[at..], &d)].concat(),
+        };
+        self.cmac(chain, &text)
     }
 }

@@ -2,6 +2,7 @@
 
 use crate::check::fail;
 use crate::library::TAG_LEN;
+use crate::mac::{Block, BlockCipher};
 use std::ffi::{c_char, c_int, c_uint, c_void, CStr};
 use std::ptr::{null, null_mut};
 
@@ -152,14 +153,14 @@ impl Libcrypto {
         Libcrypto::aes(&self.ecb, key, &[0; 16], true, blocks)
     }
 
-    /// AES in CBC mode from a zero block, either way; on one block that is the cipher itself.
-    pub fn cbc(&self, key: &[u8], encrypt: bool, blocks: &[u8]) -> Vec<u8> {
-        Libcrypto::aes(&self.cbc, key, &[0; 16], encrypt, blocks)
-    }
-
     /// AES in counter mode from a block on.
     pub fn ctr(&self, key: &[u8], first: &[u8; 16], text: &[u8]) -> Vec<u8> {
         Libcrypto::aes(&self.ctr, key, first, true, text)
+    }
+
+    /// The cipher under a key.
+    pub fn under<'a>(&'a self, key: &'a [u8]) -> Keyed<'a> {
+        Keyed { aes: self, key }
     }
 
     fn aes(mode: &[*mut c_void; 3], key: &[u8], iv: &[u8; 16], encrypt: bool, text: &[u8]) -> Vec<u8> {
@@ -177,6 +178,36 @@ impl Libcrypto {
             need("EVP_CipherUpdate of a header string", evp.update(string, null_mut()));
         }
         evp
+    }
+}
+
+/// libcrypto's AES under a key. Its CBC mode is CMAC's chain, and on one block, from zero, the cipher itself.
+pub struct Keyed<'a> {
+    aes: &'a Libcrypto,
+    key: &'a [u8],
+}
+
+impl Keyed<'_> {
+    fn cbc(&self, first: Block, encrypt: bool, blocks: &[u8]) -> Vec<u8> {
+        Libcrypto::aes(&self.aes.cbc, self.key, &first, encrypt, blocks)
+    }
+
+    /// The block that the cipher gives this one for.
+    pub fn inverse(&self, block: Block) -> Block {
+        self.cbc([0; 16], false, &block).try_into().unwrap()
+    }
+}
+
+impl BlockCipher for Keyed<'_> {
+    fn block(&self, block: Block) -> Block {
+        self.chain([0; 16], &block)
+    }
+
+    fn chain(&self, chain: Block, blocks: &[u8]) -> Block {
+        match blocks.len() {
+            0 => chain,
+            len => self.cbc(chain, true, blocks)[len - 16..].try_into().unwrap(),
+        }
     }
 }
 
