@@ -14,15 +14,15 @@ abbrev pub word : List ℕ → ℕ → List ℕ
 word w i = getD w (4 * i) 0 ∷ getD w (4 * i + 1) 0 ∷ getD w (4 * i + 2) 0 ∷ getD w (4 * i + 3) 0 ∷ []
 
 -- 5.2, RotWord
-abbrev pub rotWord : List ℕ → List ℕ
+abbrev rotWord : List ℕ → List ℕ
 rotWord a = getD a 1 0 ∷ getD a 2 0 ∷ getD a 3 0 ∷ getD a 0 0 ∷ []
 
 -- 5.2, SubWord
-abbrev pub subWord : List ℕ → List ℕ
+abbrev subWord : List ℕ → List ℕ
 subWord a = map sbox a
 
 -- 5.2, table 5, Rcon[j]
-abbrev pub rcon : ℕ → List ℕ
+abbrev rcon : ℕ → List ℕ
 rcon j = power 2 (j - 1) ∷ 0 ∷ 0 ∷ 0 ∷ []
 
 -- 5.2, table 5: a table holds the first bytes of Rcon[1] to Rcon[10]

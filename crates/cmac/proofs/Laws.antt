@@ -18,13 +18,13 @@ use Rattle.cmac.specs.Cmac.{shifted, remainder, double, pad, PaddingFold
 
 -- ---- doubling
 
-pub length-shifted : (b : List ℕ) → length (shifted b) ≡ length b
+length-shifted : (b : List ℕ) → length (shifted b) ≡ length b
 unfolding shifted
 length-shifted [] = refl
 length-shifted (b ∷ []) = refl
 length-shifted (b ∷ (c ∷ l)) = ap suc (length-shifted (c ∷ l))
 
-pub getD-shifted : (b : List ℕ) (i : ℕ) → i < length b → getD (shifted b) i 0 ≡ 2 * getD b i 0 % 256 + getD b (suc i) 0 / 128
+getD-shifted : (b : List ℕ) (i : ℕ) → i < length b → getD (shifted b) i 0 ≡ 2 * getD b i 0 % 256 + getD b (suc i) 0 / 128
 unfolding shifted
 getD-shifted [] i h = absurd (not-suc-le-zero h)
 getD-shifted (b ∷ []) zero h = sym (add-zero (2 * b % 256))

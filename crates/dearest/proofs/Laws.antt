@@ -29,7 +29,7 @@ pub record Planned (h k least : ℕ) : Type 0 where
   pub enough : k * least ≤ h
 
 -- a least length is 0 or 1 exactly where it is at most 1
-pub least-small : (least : ℕ) → (eqb least 0 || eqb least 1) ≡ true → least ≤ 1
+least-small : (least : ℕ) → (eqb least 0 || eqb least 1) ≡ true → least ≤ 1
 least-small least e = go (eqb least 0) (eqb least 1) (eqb-true least 0) (eqb-true least 1) e
   where
     go : (a b : Bool) → (a ≡ true → least ≡ 0) → (b ≡ true → least ≡ 1) → (a || b) ≡ true → least ≤ 1
@@ -37,7 +37,7 @@ least-small least e = go (eqb least 0) (eqb least 1) (eqb-true least 0) (eqb-tru
     go false true f g t = omega (arith, g refl)
     go false false f g t = absurd (false≢true t)
 
-pub small-least : (least : ℕ) → least ≤ 1 → (eqb least 0 || eqb least 1) ≡ true
+small-least : (least : ℕ) → least ≤ 1 → (eqb least 0 || eqb least 1) ≡ true
 small-least zero h = refl
 small-least (suc zero) h = refl
 small-least (suc (suc n)) h = absurd (omega arith)
@@ -86,7 +86,7 @@ times-less k n h = let next : k ≡ suc (k - 1) = omega arith in ap (λ (m : ℕ
 -- ---- no list has more blocks
 
 -- the blocks that no list passes: one for each string, and one more for every 16 bytes beyond the first byte, or beyond the k bytes that a least of 1 takes
-abbrev pub peak : ℕ → ℕ → ℕ → ℕ
+abbrev peak : ℕ → ℕ → ℕ → ℕ
 peak h k least = k + (h - max 1 (k * least)) / 16
 
 -- what holds of every list of lengths that are at least the least
@@ -102,7 +102,7 @@ within least small (n ∷ lens) each =
     let more : suc (length lens) * least ≡ length lens * least + least = suc-mul (length lens) least in
     record { sum = omega (arith, rest, each .0, more); blocks = omega (arith, rest, each .0, more) }
 
-pub at-most : (h k least : ℕ) (lens : List ℕ) → least ≤ 1 → Composes h k least lens → blocksOfAll lens ≤ peak h k least
+at-most : (h k least : ℕ) (lens : List ℕ) → least ≤ 1 → Composes h k least lens → blocksOfAll lens ≤ peak h k least
 at-most h k least lens small d =
     let all : Within least lens = within least small lens (d .each) in
     let product : length lens * least ≡ k * least = ap (λ (m : ℕ). m * least) (d .count) in
@@ -110,7 +110,7 @@ at-most h k least lens small d =
 
 -- a list that has as many is dearest
 module _ (h k least : ℕ) (lens : List ℕ) {places : List ℕ} {blocks : ℕ} where
-  pub dearest-by : least ≤ 1 → Composes h k least lens → peak h k least ≤ blocksOfAll lens → places ≡ lens ++ replicate (126 - k) 0 → blocks ≡ blocksOfAll (take k places)
+  dearest-by : least ≤ 1 → Composes h k least lens → peak h k least ≤ blocksOfAll lens → places ≡ lens ++ replicate (126 - k) 0 → blocks ≡ blocksOfAll (take k places)
       → Dearest h k least places blocks
   dearest-by small d reached laid counted =
       let zeros : List ℕ = replicate (126 - k) 0 in
@@ -143,13 +143,13 @@ alike (suc n) len =
       each = λ least h. (h, rest .each least h);
     }
 
-pub composes-by : (h k least first others : ℕ) → 1 ≤ k → first + (k - 1) * others ≡ h → least ≤ first → least ≤ others → Composes h k least (first ∷ replicate (k - 1) others)
+composes-by : (h k least first others : ℕ) → 1 ≤ k → first + (k - 1) * others ≡ h → least ≤ first → least ≤ others → Composes h k least (first ∷ replicate (k - 1) others)
 unfolding total
 composes-by h k least first others some sum l m =
     let rest = alike (k - 1) others in
     record { count = omega (arith, rest .count); sum = ap (λ (n : ℕ). first + n) (rest .sum) ∙ sum; each = (l, rest .each least m) }
 
-pub blocks-by : (k first others : ℕ) → blocksOfAll (first ∷ replicate (k - 1) others) ≡ blocksOf first + (k - 1) * blocksOf others
+blocks-by : (k first others : ℕ) → blocksOfAll (first ∷ replicate (k - 1) others) ≡ blocksOf first + (k - 1) * blocksOf others
 unfolding blocksOfAll
 blocks-by k first others = ap (λ (n : ℕ). blocksOf first + n) (alike (k - 1) others .blocks)
 

@@ -21,7 +21,7 @@ pub length-tag : (key : List ℕ) (ss : List (List ℕ)) (p : List ℕ) → leng
 unfolding tagOf s2v tag tagFrom cmacFrom aes
 length-tag key ss p = length-cipher _ _ _
 
-pub undo : (key v s : List ℕ) → streamed key v (streamed key v s) ≡ s
+undo : (key v s : List ℕ) → streamed key v (streamed key v s) ≡ s
 unfolding streamed
 undo key v s = xorStream-undo (aes (ctrKey key)) v 0 s
 

@@ -44,7 +44,7 @@ pub data FirstDue : List Row → ℕ → Type 0 where
   later : {r : Row} {rs : List Row} {n : ℕ} → r .due ≡ false → FirstDue rs n → FirstDue (r ∷ rs) n
 
 -- a call gave a number, a length and its work, and left these buffers
-abbrev pub Leaves : CallResult → Outcome → List ℕ → List ℕ → Type 0
+abbrev Leaves : CallResult → Outcome → List ℕ → List ℕ → Type 0
 Leaves result outcome output scratch = (result .outcome ≡ outcome) × (result .output ≡ output) × (result .scratch ≡ scratch)
 
 module _ (key bytes lens input output scratch : List ℕ) where
@@ -103,11 +103,11 @@ module _ (keyLength : ℕ) (ring bytes lens input output scratch : List ℕ) whe
       ++ (row 8 (noSlot (λ i. genuine (slotKey keyLength ring i) (strings bytes lens) input) (slotCount keyLength (length ring))) ∷ [])
 
   -- the scratch that the plaintext needs, zero
-  abbrev pub scratchCleared : List ℕ
+  abbrev scratchCleared : List ℕ
   scratchCleared = put scratch 0 (replicate (scratchNeed (length input - 16)) 0)
 
   -- the work for so many keys: one key's, times their number
-  abbrev pub triedKeys : ℕ → ℕ
+  abbrev triedKeys : ℕ → ℕ
   triedKeys n = n * blockWork lens (length input - 16)
 
   -- an opening under the ring by its table: the buffers are as after an opening under one key, the slot's; a refusal gives slot 0; the keys up to that slot were tried, or all of them

@@ -60,7 +60,7 @@ module _ (key bytes lens : List ℕ) where
   -- which begin, and the output shared by feed and finish as it was at first
   module _ (begin : Begin) (shared : List ℕ) where
     -- the shared output: the opener's starts with A xor the key stream of T in stage 3; after finish, with the plaintext for 0, and with zeros as long as A for 8
-    abbrev pub shownBy : Begin → ModelState → List ℕ
+    abbrev shownBy : Begin → ModelState → List ℕ
     shownBy sealer b = shared
     shownBy (opener T) b =
         cond (eqb (b .stage) 3) (put shared 0 (streamed key T (b .A)))
@@ -71,7 +71,7 @@ module _ (key bytes lens : List ℕ) where
     shown b = shownBy begin b
 
     -- whether finish accepts; a sealer has no stage that finish wants
-    abbrev pub acceptsBy : Begin → List ℕ → Bool
+    abbrev acceptsBy : Begin → List ℕ → Bool
     acceptsBy sealer A = false
     acceptsBy (opener T) A = wholeAccepts T A
 

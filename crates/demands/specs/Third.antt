@@ -77,11 +77,11 @@ module _ (key bytes lens : List ℕ) where
 
   -- a sealer's list of calls
   module _ (shared : List ℕ) (calls : List Call) where
-    abbrev pub sealerModel : ModelState
+    abbrev sealerModel : ModelState
     sealerModel = expected sealer shared calls .model
 
     module _ (start : Start) where
-      abbrev pub sealerGave : List ℕ
+      abbrev sealerGave : List ℕ
       sealerGave = gave calls (ran sealer shared calls start .entries)
 
       pub record AsSealed : Type 0 where

@@ -32,10 +32,10 @@ unfolding mul products xtimes
 thrice-mul = agree 256 (λ k. bitXor k (mul 2 k)) (mul 3) refl
 
 -- 4.4: a byte times its inverse is 01, for every byte but 00, whose inverse is 00
-pub inverse-mul : (b : ℕ) → b < 256 → mul b (inverse b) ≡ cond (eqb b 0) 0 1
+inverse-mul : (b : ℕ) → b < 256 → mul b (inverse b) ≡ cond (eqb b 0) 0 1
 unfolding inverse squares mul products xtimes
 inverse-mul = agree 256 (λ k. mul k (inverse k)) (λ k. cond (eqb k 0) 0 1) refl
 
-pub inverse-zero : inverse 0 ≡ 0
+inverse-zero : inverse 0 ≡ 0
 unfolding inverse squares mul products xtimes
 inverse-zero = refl

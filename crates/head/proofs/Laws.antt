@@ -31,7 +31,7 @@ use Rattle.head.specs.Head.{zeroHead, headOf, headOfWork, extended, exte
 
 -- ---- the heads that the code puts together
 
-abbrev pub headWith : ℕ → List ℕ → List ℕ → List ℕ → List ℕ → ℕ → Head
+abbrev headWith : ℕ → List ℕ → List ℕ → List ℕ → List ℕ → ℕ → Head
 headWith width macs ctrs l d count =
     record {
       width = width;

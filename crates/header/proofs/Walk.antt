@@ -30,7 +30,6 @@ use denote.RattleType.{RattleType, Denots, Valss, mirs, owns}
 use denote.Laws.{Is, Are, Ises, Typed, Spells, valss, Tells, Tellss, Makes, Lawful, Lawfuls, Copy, shows, all-typed}
 use denote.Plain.{UInt, uint-vals, uint-tells, uint-lawful, uint-copy, uint-makes}
 use denote.Builtin.{usize}
-use denote.Array.{Array, array-vals, array-tells, array-lawful, array-copy}
 use denote.Ref.{ShrRef, ptr-vals, shr-tells, shr-lawful, shr-copy}
 use denote.Slice.{ShrSlice, slice-vals, shr-slice-tells, shr-slice-lawful, shr-slice-copy}
 use denote.Struct.Declared.{Declared, row}
@@ -56,7 +55,7 @@ Places [] = Unit {0}
 Places (l ∷ ls) = ℕ × Places ls
 
 -- the values have the types of the locals in their order
-abbrev pub Fitting : List Local → List Val → Type 0
+abbrev Fitting : List Local → List Val → Type 0
 Fitting ls [] = Unit {0}
 Fitting [] (v ∷ vs) = ⊥
 Fitting (local τ h ∷ ls) (v ∷ vs) = (Holds (hasTy τ v) × WT v) × Fitting ls vs
@@ -138,7 +137,7 @@ module _ {M : Type 1} {𝓤 : URA M} {H : Heap 𝓤} {A : Atoms 𝓤} {K : Type 
 -- ---- what is had beside the locals
 module _ {M : Type 1} (𝓤 : URA M) (H : Heap 𝓤) (A : Atoms 𝓤) where
   -- the tokens, and what the values own
-  abbrev pub Had : SProp 𝓤 → Fml → Item 𝓤
+  abbrev Had : SProp 𝓤 → Fml → Item 𝓤
   Had P F = raw P ⊛ ‵ F
 
   -- F can be had twice
@@ -229,15 +228,12 @@ module _ {M : Type 1} {𝓤 : URA M} {H : Heap 𝓤} {A : Atoms 𝓤} (W : Given
   abbrev pub a-slice : (ℓ : Lifetime) (κ : Lft) (T : RattleType) → Walkable 𝓤 H A (ShrSlice ℓ κ T)
   a-slice ℓ κ T = record { vals = slice-vals; tells = shr-slice-tells ℓ κ T; lawful = shr-slice-lawful 𝓤 H A W ℓ κ T; copies = shr-slice-copy 𝓤 H A W ℓ κ T; still = λ k. refl }
 
-  abbrev pub an-array : (w : Width) (n : ℕ) → Walkable 𝓤 H A (Array (UInt w) n)
-  an-array w n = record { vals = array-vals (uint-vals w); tells = array-tells (UInt w) (uint-vals w) (uint-tells w) n; lawful = array-lawful 𝓤 H A W (UInt w) (uint-lawful 𝓤 H A W w) n; copies = array-copy 𝓤 H A W (UInt w) (uint-copy 𝓤 H A W w) n; still = λ k. refl }
-
   abbrev pub a-struct : (T : Declared) → LL.Laws T → LL.Copyables (T .parts) → Walkable 𝓤 H A (row T)
   a-struct T L cs = record { vals = LL.vals T L; tells = LL.tells T L; lawful = LL.lawful T L 𝓤 H A W; copies = LL.copy T cs 𝓤 H A W; still = LL.still T cs }
 
 -- the same of each type of a list
 module _ {M : Type 1} (𝓤 : URA M) (H : Heap 𝓤) (A : Atoms 𝓤) where
-  abbrev pub Walkables : List RattleType → Type 1
+  abbrev Walkables : List RattleType → Type 1
   Walkables [] = Unit {1}
   Walkables (T ∷ Ts) = Walkable 𝓤 H A T × Walkables Ts
 
@@ -283,13 +279,13 @@ module _ {M : Type 1} (𝓤 : URA M) (H : Heap 𝓤) (A : Atoms 𝓤) (T : Ended
   Binding = (x : Bound 𝓤 H A (T .signature)) × c (x .0) (x .3) .ghost
 
   -- its tokens, what its parameters own, and its result's type
-  abbrev pub Tokens : Binding → SProp 𝓤
+  abbrev Tokens : Binding → SProp 𝓤
   Tokens y = alive 𝓤 H A (T .signature) (y .0 .0) (y .0 .1)
 
   abbrev pub Owned : Binding → Fml
   Owned y = owns (typesAt (T .signature .params) (y .0 .0)) (y .0 .3) (y .0 .4)
 
-  abbrev pub ResultOf : Binding → RattleType
+  abbrev ResultOf : Binding → RattleType
   ResultOf y = typeAt (T .signature .result) (y .0 .0)
 
   -- that the function meets its contract, as a caller knows it of the routine f
@@ -297,7 +293,7 @@ module _ {M : Type 1} (𝓤 : URA M) (H : Heap 𝓤) (A : Atoms 𝓤) (T : Ended
   Knows C f = Triple 𝓤 (C f) (tripleOf 𝓤 H A (T .signature) (closing 𝓤 H A T c))
 
   -- what it ensures gives φ of the result
-  abbrev pub Ensures : (y : Binding) → (ResultOf y .Denot → Type 0) → Type 1
+  abbrev Ensures : (y : Binding) → (ResultOf y .Denot → Type 0) → Type 1
   Ensures y φ = (r : ResultOf y .Denot) (ws : Lasts T (y .0 .0) (y .0 .3)) → ent 𝓤 (c (y .0 .0) (y .0 .3) .ensures (y .1) r (atExit T (y .0 .0) (y .0 .3) ws)) (fact 𝓤 (φ r))
 
   -- it can be called where P and F are had

@@ -89,7 +89,7 @@ last-long d p h = simp (le-ltb (length p) 16 h)
 
 module _ (E : List ℕ → List ℕ) (k : Subkeys) (d : List ℕ) where
   -- whole blocks before an end of 16 bytes or more go into the chain first
-  pub tag-split : (a q : List ℕ) (n : ℕ) → length a ≡ 16 * n → 16 ≤ length q → tag E k d (a ++ q) ≡ tagFrom E k d (chain E zeros a n) q
+  tag-split : (a q : List ℕ) (n : ℕ) → length a ≡ 16 * n → 16 ≤ length q → tag E k d (a ++ q) ≡ tagFrom E k d (chain E zeros a n) q
   unfolding tag tagFrom
   tag-split a q n e h =
       ap (cmacFrom E k zeros) (last-long d (a ++ q) (simp length-append (omega arith)) ∙ xorend-append a q d h)
@@ -136,7 +136,7 @@ unfolding absorbStrings
 absorb-append E k d [] b = refl
 absorb-append E k d (s ∷ a) b = absorb-append E k _ a b
 
-pub length-absorbStrings : (E : List ℕ → List ℕ) (k : Subkeys) (d : List ℕ) (ss : List (List ℕ)) → length (absorbStrings E k d ss) ≡ length d
+length-absorbStrings : (E : List ℕ → List ℕ) (k : Subkeys) (d : List ℕ) (ss : List (List ℕ)) → length (absorbStrings E k d ss) ≡ length d
 unfolding absorbStrings
 length-absorbStrings E k d [] = refl
 length-absorbStrings E k d (s ∷ ss) = length-absorbStrings E k _ ss ∙ length-xors (double d) (cmac E k s) ∙ length-double d
@@ -145,13 +145,13 @@ pub length-headerResult : (E : List ℕ → List ℕ) → ((b : List ℕ) → le
 unfolding headerResult cmacFrom
 length-headerResult E sized k ss = length-absorbStrings E k _ ss ∙ sized _
 
-pub absorb-work-append : (w : ℕ) (a b : List (List ℕ)) → absorbWork w (a ++ b) ≡ absorbWork (absorbWork w a) b
+absorb-work-append : (w : ℕ) (a b : List (List ℕ)) → absorbWork w (a ++ b) ≡ absorbWork (absorbWork w a) b
 unfolding absorbWork
 absorb-work-append w [] b = refl
 absorb-work-append w (s ∷ a) b = absorb-work-append _ a b
 
 -- a string has a block at the most for every 16 bytes, and one
-pub absorb-work-most : (w : ℕ) (bytes lens : List ℕ) → 16 * absorbWork w (strings bytes lens) ≤ 16 * (w + length lens) + total lens
+absorb-work-most : (w : ℕ) (bytes lens : List ℕ) → 16 * absorbWork w (strings bytes lens) ≤ 16 * (w + length lens) + total lens
 unfolding absorbWork strings total
 absorb-work-most w bytes [] = omega arith
 absorb-work-most w bytes (n ∷ lens) =

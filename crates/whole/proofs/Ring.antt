@@ -134,7 +134,7 @@ module _ (test : ℕ → Bool) (work : ℕ → ℕ) where
           at j l h (no p) = ih .before j (omega arith) h
 
   -- where each slot has the same work, it is that times the slots up to the end, and the one that passed
-  pub try-work : (w i sum n : ℕ) → ((j : ℕ) → j < i + n → work j ≡ w)
+  try-work : (w i sum n : ℕ) → ((j : ℕ) → j < i + n → work j ≡ w)
       → let found = trySlots test work i sum n in
       found .work + i * w ≡ sum + (found .slot + cond (ltb (found .slot) (i + n)) 1 0) * w
   try-work w i sum zero each =
@@ -154,7 +154,7 @@ module _ (test : ℕ → Bool) (work : ℕ → ℕ) where
           ∙ ap (λ (m : ℕ). sum + (rest .slot + cond (ltb (rest .slot) m) 1 0) * w) (suc-add i n ∙ sym (add-suc i n))
 
 -- tests and works that agree on the slots end alike
-pub try-same : (test test′ : ℕ → Bool) (work work′ : ℕ → ℕ) (i sum n : ℕ) → ((j : ℕ) → j < i + n → test j ≡ test′ j) → ((j : ℕ) → j < i + n → work j ≡ work′ j)
+try-same : (test test′ : ℕ → Bool) (work work′ : ℕ → ℕ) (i sum n : ℕ) → ((j : ℕ) → j < i + n → test j ≡ test′ j) → ((j : ℕ) → j < i + n → work j ≡ work′ j)
     → trySlots test work i sum n ≡ trySlots test′ work′ i sum n
 try-same test test′ work work′ i sum zero t w = refl
 try-same test test′ work work′ i sum (suc n) t w =
