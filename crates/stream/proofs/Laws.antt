@@ -1,26 +1,24 @@
--- Laws of joined strings, of what refusal 9 judges and of the calls' results.
+-- Laws of what refusal 9 judges, of the tail and of the calls' results.
 -- Assumes nothing.
 use mathlib.Core.Path.{_≡_, refl, ap, ap₂, sym, subst, _∙_}
-use mathlib.Core.Bool.{Bool, true, false, not, cond, _&&_, _||_, and-eq-true-iff}
+use mathlib.Core.Bool.{Bool, true, false, not, cond, _&&_, and-eq-true-iff}
 use mathlib.Core.List.{List, [], _∷_, _++_, append-assoc}
-use Prim.Native.Nat.{ℕ, _+_, _-_, _*_, _/_, _%_, _≤_, _<_, min}
-use native.Mathlib.Numerals.{add-one}
+use Prim.Native.Nat.{ℕ, _+_, _-_, _*_, _/_, _%_, _≤_, _<_}
 use native.Mathlib.Decide.{decLt, ℕ-discrete}
 use native.Mathlib.Omega.{arith}
 use lib.Dec.{eqb, ltb}
-use lib.ListN.{length, getD, take, drop, replicate, length-drop, drop-of-length-le}
-use lib.Seq.{take-all, take-append-le, take-append-add, drop-append-le, drop-append-add, drop-cons, length-take-le, take-at, drop-at}
-use borrow.Author.Tests.{eqb-true, eq-eqb, ne-eqb, lt-ltb, le-ltb, ltb-false, not-true, not-false}
-use Rattle.octets.specs.Octets.{xors, put, part, same}
-use Rattle.octets.proofs.Strings.{part-to, length-xors, put-put}
+use lib.ListN.{length, take, drop, replicate}
+use lib.Seq.{take-all, length-take-le, take-at, drop-at}
+use borrow.Author.Tests.{eqb-true, eq-eqb, ne-eqb, ltb-false, not-true, not-false}
+use Rattle.octets.specs.Octets.{put, part, same}
+use Rattle.octets.proofs.Strings.{part-to}
 use Rattle.aes.specs.Aes.{isWidth}
 use Rattle.aes.specs.Cipher.{cipher}
-use Rattle.aes.proofs.Widths.{width, length-cipher}
+use Rattle.aes.proofs.Widths.{width}
 use Rattle.cmac.specs.Cmac.{chain}
 use Rattle.s2v.specs.S2v.{tailLength}
 use Rattle.s2v.proofs.Laws.{Tail, tail, tail-short, tail-long}
-use Rattle.ctr.specs.Counter.{keyStreamWork, xorStream, noBlock, begunBlock, leftOver, pieceWork, xorPiece, keptAfter}
-use Rattle.ctr.proofs.Laws.{pieceWork-within, pieceWork-beyond, pieceWork-fresh, length-xorPiece, xorPiece-within, keptAfter-within, xorPiece-beyond, keptAfter-beyond, xorPiece-fresh, keptAfter-fresh}
+use Rattle.keystream.proofs.Laws.{length-xorPiece}
 use Rattle.answers.specs.declared.Answer.{Answer}
 use Rattle.answers.specs.declared.Answer.the-variants.{Ok, Refused}
 use Rattle.answers.specs.declared.Refusal.the-variants.{Forged}
@@ -33,59 +31,10 @@ use Rattle.head.specs.Head.{MakeResult, DidMake, settleHead}
 use Rattle.head.proofs.Laws.{settle-made, settle-refused}
 use Rattle.stream.specs.declared.Step.{Step}
 use Rattle.stream.specs.declared.Stream.{Stream}
-use Rattle.stream.specs.State.{allZero, writtenLimit, keptFits, fits, passedBlocks, leavingBlocks, tailOf, stateWith, added, ended, tagOfState, tagOfStateWork, streamedAt, keptAt}
+use Rattle.stream.specs.State.{writtenLimit, keptFits, fits, passedBlocks, leavingBlocks, tailOf, stateWith, added, ended, tagOfState, tagOfStateWork, streamedAt}
 use Rattle.stream.specs.Steps.{StepResult, DidStep, refusedStep, settle, beginBy, tagRows, finishStep, addRows, turnRows, writeRows, feedRows, finishRows, finishTable}
 
--- ---- parts of two joined strings
-
-module _ (a b : List ℕ) (at n : ℕ) where
-  -- a part that lies in the second string
-  pub part-right : length a ≤ at → part (a ++ b) at n ≡ part b (at - length a) n
-  part-right h =
-      let place : at ≡ length a + (at - length a) = omega arith in
-      ap (take n) (ap (λ (k : ℕ). drop k (a ++ b)) place ∙ drop-append-add a b (at - length a))
-
-  -- a part that lies in the first
-  pub part-left : at + n ≤ length a → part (a ++ b) at n ≡ part a at n
-  part-left h = ap (take n) (drop-append-le at a b (omega arith)) ∙ take-append-le n (drop at a) b (simp length-drop (omega arith))
-
-  -- a part that lies in both
-  pub part-seam : at ≤ length a → length a - at ≤ n → part (a ++ b) at n ≡ drop at a ++ take (n - (length a - at)) b
-  part-seam h k =
-      let count : n ≡ length (drop at a) + (n - (length a - at)) = simp length-drop (omega arith) in
-      ap (take n) (drop-append-le at a b h) ∙ ap (λ (m : ℕ). take m (drop at a ++ b)) count ∙ take-append-add (drop at a) b (n - (length a - at))
-
 -- ---- what refusal 9 judges
-
--- the bytes from place at on that stand at i or behind it
-abbrev pub behind : List ℕ → ℕ → ℕ → List ℕ
-behind s at i = drop (cond (ltb i at) at i) s
-
-pub zero-begin : (s : List ℕ) (at : ℕ) → behind s at 0 ≡ drop at s
-zero-begin s at = go (decLt 0 at)
-  where
-    go : Dec (0 < at) → behind s at 0 ≡ drop at s
-    go (yes k) = simp (lt-ltb 0 at k) refl
-    go (no k) = let e : at ≡ 0 = omega arith in simp e refl
-
-pub zero-more : (s : List ℕ) (at i : ℕ) → i < length s → allZero (behind s at i) ≡ ((ltb i at || eqb (getD s i 0) 0) && allZero (behind s at (i + 1)))
-unfolding allZero
-zero-more s at i h = go (decLt i at) (decLt (i + 1) at)
-  where
-    go : Dec (i < at) → Dec (i + 1 < at) → allZero (behind s at i) ≡ ((ltb i at || eqb (getD s i 0) 0) && allZero (behind s at (i + 1)))
-    go (yes k) (yes m) = simp (lt-ltb i at k, lt-ltb (i + 1) at m) refl
-    go (yes k) (no m) = let e : at ≡ i + 1 = omega arith in simp (lt-ltb i at k, le-ltb (i + 1) at (omega arith)) (ap (λ (n : ℕ). allZero (drop n s)) e)
-    go (no k) m =
-        simp (le-ltb i at (omega arith), le-ltb (i + 1) at (omega arith))
-        (ap allZero (drop-cons s i 0 h) ∙ ap (λ (n : ℕ). eqb (getD s i 0) 0 && allZero (drop n s)) (sym (add-one i)))
-
-pub zero-end : (s : List ℕ) (at i : ℕ) → length s ≤ i → allZero (behind s at i) ≡ true
-unfolding allZero
-zero-end s at i h = go (decLt i at)
-  where
-    go : Dec (i < at) → allZero (behind s at i) ≡ true
-    go (yes k) = simp (lt-ltb i at k) (ap allZero (drop-of-length-le s {i = at} (omega arith)))
-    go (no k) = simp (le-ltb i at (omega arith)) (ap allZero (drop-of-length-le s h))
 
 -- what a state that fits may be relied on for
 pub record Fit (wanted : ℕ) (s : Stream) : Type 0 where
@@ -218,78 +167,6 @@ absorbed s text {left} {n} {used} {c} {rest} t count u p q =
       p ∙ ap₂ (λ (h k : ℕ). chain (cipher (s .width) (s .«mac_keys»)) (s .chain) (take h (s .tail) ++ text) k) u count,
       q ∙ ap₂ (λ (h k : ℕ). tailOf (drop (16 * k) (take h (s .tail) ++ text))) u count,
     )
-
--- ---- a piece of the key stream
-
--- n bytes of a piece are xored with what the kept block has for them
-module _ (s : Stream) (long : length (s .kept) ≡ 16) (place : ℕ) (text l : List ℕ) (at n : ℕ) (few : n ≡ min (leftOver place) (length text)) where
-  F : List ℕ → List ℕ
-  F = cipher (s .width) (s .«ctr_keys»)
-
-  -- as the code has it: `&piece[..n]` and `&kept[place % 16..]`
-  abbrev pub fromKept : List ℕ
-  fromKept = xors (take n text) (take (16 - place % 16) (drop (place % 16) (s .kept)))
-
-  from-kept : fromKept ≡ xors (take n text) (drop (place % 16) (s .kept))
-  from-kept = ap (xors (take n text)) (take-all (16 - place % 16) (drop (place % 16) (s .kept)) (omega (arith, length-drop (place % 16) (s .kept))))
-
-  length-fromKept : length fromKept ≡ n
-  length-fromKept = length-xors (take n text) _ ∙ length-take-le n text (omega arith)
-
-  -- where these are all
-  module _ (all : n ≡ length text) where
-    pub streamed-within : {last : List ℕ} → last ≡ put l at fromKept → last ≡ put l at (streamedAt s place text)
-    unfolding streamedAt F
-    streamed-within e =
-        e
-        ∙ ap (put l at) (from-kept ∙ ap (λ (t : List ℕ). xors t (drop (place % 16) (s .kept))) (take-all n text (omega arith)) ∙ sym (xorPiece-within F (s .v) (s .kept) place text (omega arith)))
-
-    pub kept-within : cond (eqb ((place + n) % 16) 0) noBlock (s .kept) ≡ keptAt s place (length text)
-    unfolding keptAt F
-    kept-within = ap (λ (m : ℕ). cond (eqb ((place + m) % 16) 0) noBlock (s .kept)) all ∙ sym (keptAfter-within F (s .v) (s .kept) place (length text) (omega arith))
-
-    pub work-within : 0 ≡ pieceWork place (length text)
-    work-within = sym (pieceWork-within place (length text) (omega arith))
-
-  -- where more follow, from the next block on: `&piece[n..]`
-  module _ (more : n ≡ length text → ⊥) where
-    abbrev pub fromNew : List ℕ
-    fromNew = take (length text - n) (drop n text)
-
-    from-new : fromNew ≡ drop n text
-    from-new = take-all (length text - n) (drop n text) (omega (arith, length-drop n text))
-
-    used-up : n ≡ leftOver place
-    used-up = omega (arith, few, more)
-
-    pub streamed-beyond : at + length text ≤ length l → {wrote last : List ℕ} → wrote ≡ put l at fromKept
-        → last ≡ put wrote (at + n) (xorPiece (cipher (s .width) (s .«ctr_keys»)) (s .v) noBlock (16 * ((place + n) / 16)) fromNew) → last ≡ put l at (streamedAt s place text)
-    unfolding streamedAt F
-    streamed-beyond room {wrote} w e =
-        let next : 16 * ((place + n) / 16) ≡ place + n = omega (arith, used-up) in
-        let seam : at + n ≡ at + length fromKept = ap (λ (k : ℕ). at + k) (sym length-fromKept) in
-        let rest : List ℕ = xorStream F (s .v) (place + n) (drop n text) in
-        e
-        ∙ ap (put wrote (at + n)) (xorPiece-fresh F (length-cipher _ _) (s .v) ((place + n) / 16) fromNew)
-        ∙ ap₂ (λ (x : List ℕ) (k : ℕ). put x (at + n) (xorStream F (s .v) k fromNew)) w next
-        ∙ ap₂ (λ (k : ℕ) (t : List ℕ). put (put l at fromKept) k (xorStream F (s .v) (place + n) t)) seam from-new
-        ∙ put-put l at fromKept rest (omega (arith, length-fromKept, few))
-        ∙ ap (λ (t : List ℕ). put l at (t ++ rest)) from-kept
-        ∙ ap (λ (k : ℕ). put l at (xors (take k text) (drop (place % 16) (s .kept)) ++ xorStream F (s .v) (place + k) (drop k text))) used-up
-        ∙ ap (put l at) (sym (xorPiece-beyond F (length-cipher _ _) (s .v) (s .kept) place text long (omega (arith, few, used-up))))
-
-    pub kept-beyond : keptAfter (cipher (s .width) (s .«ctr_keys»)) (s .v) noBlock (16 * ((place + n) / 16)) (length fromNew) ≡ keptAt s place (length text)
-    unfolding keptAt F
-    kept-beyond =
-        let end : 16 * ((place + n) / 16) + length fromNew ≡ place + length text = omega (arith, used-up, few, ap length from-new, length-drop n text) in
-        keptAfter-fresh F (length-cipher _ _) (s .v) ((place + n) / 16) (length fromNew)
-        ∙ ap (begunBlock F (s .v)) end
-        ∙ sym (keptAfter-beyond F (length-cipher _ _) (s .v) (s .kept) place (length text) long (omega (arith, few, used-up)))
-
-    pub work-beyond : pieceWork (16 * ((place + n) / 16)) (length fromNew) ≡ pieceWork place (length text)
-    work-beyond =
-        let count : length fromNew ≡ length text - leftOver place = omega (arith, used-up, ap length from-new, length-drop n text) in
-        pieceWork-fresh ((place + n) / 16) (length fromNew) ∙ ap keyStreamWork count ∙ sym (pieceWork-beyond place (length text) (omega (arith, few, used-up)))
 
 -- ---- feed and finish
 

@@ -1,17 +1,17 @@
 -- The stream state: which ones a call takes, and what a piece makes of one. Document 01, "Piecewise calls", and slips 4 and 5 of document 02.
 -- Assumes nothing.
 use mathlib.Core.Path.{_≡_}
-use mathlib.Core.Bool.{Bool, true, not, cond, _&&_, _||_}
-use mathlib.Core.List.{List, [], _∷_, _++_}
+use mathlib.Core.Bool.{Bool, not, cond, _&&_, _||_}
+use mathlib.Core.List.{List, _++_}
 use Prim.Native.Nat.{ℕ, _+_, _-_, _*_, _/_, _%_}
 use lib.Dec.{eqb, ltb}
 use lib.ListN.{length, take, drop, replicate}
-use Rattle.octets.specs.Octets.{put}
+use Rattle.octets.specs.Octets.{put, allZero}
 use Rattle.aes.specs.Aes.{isWidth}
 use Rattle.aes.specs.Cipher.{cipher}
 use Rattle.cmac.specs.Cmac.{zeros, subkeys, chain, chainWork}
 use Rattle.s2v.specs.S2v.{tailLength, tagFrom, tagFromWork}
-use Rattle.ctr.specs.Counter.{xorPiece, keptAfter}
+use Rattle.keystream.specs.Pieces.{xorPiece, keptAfter}
 use Rattle.siv.specs.Calls.{limit}
 use Rattle.head.specs.declared.Head.{Head}
 use Rattle.stream.specs.declared.Stream.{Stream}
@@ -54,11 +54,6 @@ start h stage v =
       «tail_len» = 0;
       tail = replicate 31 0;
     }
-
--- whether a string is zeros alone
-unfoldable pub allZero : List ℕ → Bool
-allZero [] = true
-allZero (b ∷ l) = eqb b 0 && allZero l
 
 -- the most that written may be: total in stage 2, else 0
 abbrev pub writtenLimit : ℕ → ℕ → ℕ

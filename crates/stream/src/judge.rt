@@ -1,42 +1,16 @@
 // Which refusal is due, from a state and from lengths.
 ghost use mathlib.Core.Path.{_≡_};
-ghost use mathlib.Core.Bool.{not, _&&_, _||_};
+ghost use mathlib.Core.Bool.{not, _&&_};
 ghost use Prim.Native.Nat.{_+_, _≤_};
 ghost use lib.Dec.{eqb, ltb};
-ghost use lib.ListN.{length, drop};
+ghost use lib.ListN.{length};
 ghost use Rattle.s2v.specs.S2v.{tailLength};
 ghost use Rattle.answers.specs.Answer.{outcomeOf, first, numberAlone};
-ghost use Rattle.stream.specs.State.{allZero, writtenLimit, streamPlace, keptFits, fits};
+ghost use Rattle.stream.specs.State.{writtenLimit, streamPlace, keptFits, fits};
 ghost use Rattle.stream.specs.Steps.{addRows, turnRows, writeRows, feedRows, finishRows};
 use crate::Stream;
 use answers::Answer;
 use answers::Refusal;
-
-// Whether what was zero so far is, with a byte more at place i, which counts from place at on.
-fn still_zero(zero: bool, i: usize, at: usize, b: u8) -> bool
-    ensures { λ r. ⌜ r ≡ (zero && (ltb i at || eqb b 0)) ⌝ }
-{
-    if i < at {
-        return zero;
-    }
-    if b == 0 {
-        return zero;
-    }
-    false
-}
-
-// Whether the bytes of a slice from a place on are zero; it reads all of them, which the compiler does by sixteens.
-fn zero_from(s: &[u8], at: usize) -> bool
-    ensures { λ r. ⌜ r ≡ allZero (drop at (now (s .entry))) ⌝ }
-{
-    let mut zero = true;
-    let mut i = 0;
-    while i < s.len() {
-        zero = still_zero(zero, i, at, s[i]);
-        i += 1;
-    }
-    zero
-}
 
 // The most that written may be in a stage.
 fn written_limit(stage: u8, total: usize) -> usize
@@ -76,7 +50,7 @@ fn kept_fits(stage: u8, s: Stream) -> bool
         return true;
     }
     let kept = s.kept;
-    zero_from(&kept, 0)
+    octets::zero_from(&kept, 0)
 }
 
 // Whether a state is one for a call that wants a stage.
@@ -102,7 +76,7 @@ fn fits(wanted: u8, s: Stream) -> bool
         return false;
     }
     let tail = s.tail;
-    zero_from(&tail, s.tail_len)
+    octets::zero_from(&tail, s.tail_len)
 }
 
 // Whether total with n bytes more is past a limit.

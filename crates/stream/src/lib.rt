@@ -15,7 +15,7 @@ use head::Head;
 use octets::Block;
 
 // The bytes that wait for the plaintext's end, and zeros behind them.
-pub type Tail = [u8; 31];
+pub type Tail = joined::Tail;
 
 // A stream state, of a sealer or an opener.
 pub struct Stream {

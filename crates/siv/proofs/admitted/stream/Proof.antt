@@ -11,8 +11,8 @@ use Rattle.octets.proofs.Strings.{part-rest}
 use Rattle.aes.specs.Aes.{isWidth}
 use Rattle.aes.specs.KeyExpansion.{roundKeys}
 use Rattle.aes.proofs.Widths.{length-cipher}
-use Rattle.ctr.specs.Counter.{xorStream}
-use Rattle.ctr.proofs.Laws.{pieceWork-fresh, xorPiece-fresh}
+use Rattle.keystream.specs.KeyStream.{xorStream}
+use Rattle.keystream.proofs.Laws.{pieceWork-fresh, xorPiece-fresh}
 use Rattle.siv.specs.Siv.{ctrKey, streamed, streamedWork}
 use Rattle.siv.proofs.Laws.{KeyHalves, halves, aes-cipher}
 use Rattle.siv.proofs.admitted.stream.Statement.{statement}

@@ -8,8 +8,8 @@ use lib.ListN.{length, length-take, length-drop}
 use borrow.Author.Needs.{needs}
 use Rattle.cmac.specs.Cmac.{chainWork}
 use Rattle.cmac.proofs.Laws.{chain-work}
-use Rattle.ctr.specs.Counter.{newBlocks, pieceWork}
-use Rattle.ctr.proofs.Laws.{stream-work}
+use Rattle.keystream.specs.Pieces.{newBlocks, pieceWork}
+use Rattle.keystream.proofs.Laws.{stream-work}
 use Rattle.answers.specs.Answer.{success, first}
 use Rattle.answers.proofs.Laws.{told-refused, passed}
 use Rattle.stream.specs.State.{leavingBlocks, stateWith, added, addedWork, streamedAt, streamedWith}

@@ -31,33 +31,37 @@ add-n c = omega (arith, piece-of (c .before .before .before), c .before .before 
 sub-n : tie.Need-sub-n
 sub-n c = omega (arith, piece-of (c .before .before .before), c .before .before .before .pre, c .tail-len .ensures)
 
-sub-chain-text : tie.Need-sub-chain-text
-sub-chain-text c = search needs
+sub-chain : tie.Need-sub-chain
+sub-chain c = search needs
 
-part-chain-text-start : tie.Need-part-chain-text-start
-part-chain-text-start c = search needs
+part-chain-start : tie.Need-part-chain-start
+part-chain-start c = search needs
 
-part-chain-text-end : tie.Need-part-chain-text-end
-part-chain-text-end c = omega (arith, tail-length (c .before .before .before .before .before .before .before .before), piece-of (c .before .before .before .before .before .before .before .before), c .before .before .before .before .before .before .before .before .pre)
+part-chain-end : tie.Need-part-chain-end
+part-chain-end c = omega (arith, tail-length (c .before .before .before .before .before .before .before .before), piece-of (c .before .before .before .before .before .before .before .before), c .before .before .before .before .before .before .before .before .pre)
 
-chain-text-requires : tie.Need-chain-text-requires
-chain-text-requires c κs =
-    (c .before .before .before .before .before .before .before .before .before .pre .0, simp length-take (omega (arith, tail-length (c .before .before .before .before .before .before .before .before .before), piece-of (c .before .before .before .before .before .before .before .before .before), c .before .before .before .before .before .before .before .before .before .pre, c .before .before .before .before .before .before .tail-len .ensures)))
+chain-requires : tie.Need-chain-requires
+chain-requires c κs =
+    let start = c .before .before .before .before .before .before .before .before .before in (
+      start .pre .0,
+      simp length-take (omega (arith, tail-length start)),
+      simp length-take (omega (arith, tail-length start, piece-of start, start .pre, c .before .before .before .before .before .before .tail-len .ensures)),
+    )
 
-sub-tail-joined : tie.Need-sub-tail-joined
-sub-tail-joined c = search needs
+sub-tail : tie.Need-sub-tail
+sub-tail c = search needs
 
-part-tail-joined-start : tie.Need-part-tail-joined-start
-part-tail-joined-start c = search needs
+part-tail-start : tie.Need-part-tail-start
+part-tail-start c = search needs
 
-part-tail-joined-end : tie.Need-part-tail-joined-end
-part-tail-joined-end c = let start = c .before .before .before .before .before .before .before .before .before .before .before in omega (arith, tail-length start, piece-of start, start .pre)
+part-tail-end : tie.Need-part-tail-end
+part-tail-end c = let start = c .before .before .before .before .before .before .before .before .before .before .before in omega (arith, tail-length start, piece-of start, start .pre)
 
-mul-tail-joined : tie.Need-mul-tail-joined
-mul-tail-joined c = let start = c .before .before .before .before .before .before .before .before .before .before .before .before in omega (arith, piece-of start, start .pre, c .before .before .before .before .before .before .before .before .before .tail-len .ensures)
+mul-tail : tie.Need-mul-tail
+mul-tail c = let start = c .before .before .before .before .before .before .before .before .before .before .before .before in omega (arith, piece-of start, start .pre, c .before .before .before .before .before .before .before .before .before .tail-len .ensures)
 
-tail-joined-requires : tie.Need-tail-joined-requires
-tail-joined-requires c κs =
+tail-requires : tie.Need-tail-requires
+tail-requires c κs =
     let start = c .before .before .before .before .before .before .before .before .before .before .before .before in (
       simp length-take (omega (arith, tail-length start, piece-of start, start .pre, c .before .before .before .before .before .before .before .before .before .tail-len .ensures)),
       omega (arith, piece-of start, c .before .before .before .before .before .before .before .before .before .tail-len .ensures),
@@ -72,9 +76,9 @@ returns c =
     let left = c .before .before .before .before .before .before .before .before .before .before .tail-len in
     let count : (s .«tail_len» + length text - left .result) / 16 ≡ leavingBlocks s (length text) = omega (arith, piece-of start, start .pre, left .ensures) in
     let used : s .«tail_len» - 0 ≡ tailLength (s .total) = omega (arith, start .pre) in
-    let chained = c .before .before .before .chain-text .ensures in
+    let chained = c .before .before .before .chain .ensures in
     record {
-      state = absorbed s text (left .ensures) count used (chained .block) (c .tail-joined .ensures);
+      state = absorbed s text (left .ensures) count used (chained .block) (c .tail .ensures);
       work = chained .work ∙ ap chainWork count;
     }
 
@@ -86,13 +90,13 @@ absorb-spec =
     tail-len-requires
     add-n
     sub-n
-    sub-chain-text
-    part-chain-text-start
-    part-chain-text-end
-    chain-text-requires
-    sub-tail-joined
-    part-tail-joined-start
-    part-tail-joined-end
-    mul-tail-joined
-    tail-joined-requires
+    sub-chain
+    part-chain-start
+    part-chain-end
+    chain-requires
+    sub-tail
+    part-tail-start
+    part-tail-end
+    mul-tail
+    tail-requires
     returns)
