@@ -32,8 +32,9 @@ use Rattle.siv.proofs.Laws.{KeyHalves, halves, aes-cipher, length-streamed}
 use Rattle.siv.proofs.Lengths.{tag-lengths}
 use Rattle.head.specs.Head.{headOf}
 use Rattle.stream.specs.declared.Stream.{Stream}
-use Rattle.stream.specs.State.{start, writtenLimit, keptFits, fits, usedTail, tailOf, passedBlocks, stateWith, added, addedWork, tagOfState, tagOfStateWork, streamedAt, keptAt}
-use Rattle.stream.proofs.Laws.{Cut, cut, passed-more}
+use Rattle.stream.specs.State.{start, writtenLimit, keptFits, fits, usedTail, stateWith, added, addedWork, tagOfState, tagOfStateWork, streamedAt, keptAt}
+use Rattle.tail.specs.Tail.{tailOf, passedBlocks}
+use Rattle.tail.proofs.Laws.{Cut, cut, passed-more}
 use Rattle.demands.specs.Model.{chained}
 
 with-same : (s : Stream) {c c′ : List ℕ} {n n′ : ℕ} {t t′ : List ℕ} → c ≡ c′ → n ≡ n′ → t ≡ t′ → stateWith s c n (tailLength n) t ≡ stateWith s c′ n′ (tailLength n′) t′

@@ -3,8 +3,8 @@
 use mathlib.Core.Path.{_≡_, refl, ap, ap₂, sym, subst, _∙_}
 use mathlib.Core.Bool.{Bool, true, false, not, cond, _&&_, and-eq-true-iff}
 use mathlib.Core.List.{List, [], _∷_, _++_, append-assoc}
-use Prim.Native.Nat.{ℕ, _+_, _-_, _*_, _/_, _%_, _≤_, _<_}
-use native.Mathlib.Decide.{decLt, ℕ-discrete}
+use Prim.Native.Nat.{ℕ, _+_, _-_, _≤_}
+use native.Mathlib.Decide.{ℕ-discrete}
 use native.Mathlib.Omega.{arith}
 use lib.Dec.{eqb, ltb}
 use lib.ListN.{length, take, drop, replicate}
@@ -17,13 +17,15 @@ use Rattle.aes.specs.Cipher.{cipher}
 use Rattle.aes.proofs.Widths.{width}
 use Rattle.cmac.specs.Cmac.{chain}
 use Rattle.s2v.specs.S2v.{tailLength}
-use Rattle.s2v.proofs.Laws.{Tail, tail, tail-short, tail-long}
+use Rattle.s2v.proofs.Laws.{tail}
 use Rattle.keystream.proofs.Laws.{length-xorPiece}
 use Rattle.answers.specs.declared.Answer.{Answer}
 use Rattle.answers.specs.declared.Answer.the-variants.{Ok, Refused}
 use Rattle.answers.specs.declared.Refusal.the-variants.{Forged}
 use Rattle.answers.specs.Answer.{Outcome, Row, row, first, outcomeOf, success, numberAlone, forged}
 use Rattle.answers.proofs.Laws.{lacks, outcome-number, outcome-work, not-due, first-not, first-pass, first-stop, first-append}
+use Rattle.tail.specs.declared.Absorbed.{Absorbed}
+use Rattle.tail.specs.Tail.{Leaves}
 use Rattle.siv.specs.Calls.{limit}
 use Rattle.head.specs.declared.Head.{Head}
 use Rattle.head.specs.declared.Made.{Made}
@@ -31,7 +33,7 @@ use Rattle.head.specs.Head.{MakeResult, DidMake, settleHead}
 use Rattle.head.proofs.Laws.{settle-made, settle-refused}
 use Rattle.stream.specs.declared.Step.{Step}
 use Rattle.stream.specs.declared.Stream.{Stream}
-use Rattle.stream.specs.State.{writtenLimit, keptFits, fits, passedBlocks, leavingBlocks, tailOf, stateWith, added, ended, tagOfState, tagOfStateWork, streamedAt}
+use Rattle.stream.specs.State.{writtenLimit, keptFits, fits, Absorbs, added, addedWork, ended, tagOfState, tagOfStateWork, streamedAt}
 use Rattle.stream.specs.Steps.{StepResult, DidStep, refusedStep, settle, beginBy, tagRows, finishStep, addRows, turnRows, writeRows, feedRows, finishRows, finishTable}
 
 -- ---- what refusal 9 judges
@@ -60,6 +62,10 @@ fit wanted s e =
       tailLen = eqb-true (s .«tail_len») (tailLength (s .total)) (t .1);
     }
 
+-- what was judged of a state by a test that says whether it fits
+pub judged-by : (wanted : ℕ) (s : Stream) (rest : ℕ) {f : Bool} {o : Outcome} → f ≡ fits wanted s → o ≡ numberAlone (cond (not f) 9 rest) → o ≡ numberAlone (cond (not (fits wanted s)) 9 rest)
+judged-by wanted s rest e o = o ∙ ap (λ (f : Bool). numberAlone (cond (not f) 9 rest)) e
+
 -- ---- the calls' results
 
 module _ (test : Bool) (a b : StepResult) {step : Step} {last : List ℕ} where
@@ -77,29 +83,6 @@ refused a n done s output k e =
 
 pub done : (n : ℕ) (result : StepResult) (s : Stream) (output : List ℕ) {step : Step} {last : List ℕ} → n ≡ 0 → DidStep result step last → DidStep (settle n result s output) step last
 done n result s output e d = picked (eqb n 0) _ _ (eq-eqb n 0 e) d
-
--- ---- the tail
-
--- blocks before the tail, and the tail, are the whole
-pub record Cut (n : ℕ) : Type 0 where
-  pub blocks : 16 * passedBlocks n + tailLength n ≡ n
-  pub short : tailLength n < 32
-
-pub cut : (n : ℕ) → Cut n
-unfolding passedBlocks
-cut n = let t : Tail n = tail n in record { blocks = omega arith; short = t .short }
-
--- a longer string has as many blocks before its tail, or more
-pub passed-more : (n m : ℕ) → passedBlocks n ≤ passedBlocks (n + m)
-unfolding passedBlocks
-passed-more n m = go (decLt n 16) (decLt (n + m) 16)
-  where
-    go : Dec (n < 16) → Dec (n + m < 16) → (n - tailLength n) / 16 ≤ (n + m - tailLength (n + m)) / 16
-    go (yes h) k = let e : tailLength n ≡ n = tail-short n h in omega arith
-    go (no h) k =
-        let e : tailLength n ≡ 16 + n % 16 = tail-long n (omega arith) in
-        let f : tailLength (n + m) ≡ 16 + (n + m) % 16 = tail-long (n + m) (omega arith) in
-        omega arith
 
 -- ---- what the refusals leave
 
@@ -143,30 +126,10 @@ module _ (s : Stream) where
 
 -- ---- what is done once a call is admitted
 
--- what a piece leaves of a tail and puts into the chain, in numbers
-pub record Piece (total n : ℕ) : Type 0 where
-  pub count : 16 * (passedBlocks (total + n) - passedBlocks total) + tailLength (total + n) ≡ tailLength total + n
-  pub used : tailLength total ≤ 31
-  pub left : tailLength (total + n) < 32
-
-pub piece : (total n : ℕ) → Piece total n
-piece total n =
-    let a : Cut total = cut total in
-    let b : Cut (total + n) = cut (total + n) in
-    let h : passedBlocks total ≤ passedBlocks (total + n) = passed-more total n in
-    record { count = omega arith; used = omega arith; left = b .short }
-
--- the state that the code puts together is the one with the piece
-pub absorbed : (s : Stream) (text : List ℕ) {left n used : ℕ} {c rest : List ℕ} → left ≡ tailLength (s .total + length text) → n ≡ leavingBlocks s (length text)
-    → used ≡ tailLength (s .total) → c ≡ chain (cipher (s .width) (s .«mac_keys»)) (s .chain) (take used (s .tail) ++ text) n
-    → rest ≡ tailOf (drop (16 * n) (take used (s .tail) ++ text)) → stateWith s c (s .total + length text) left rest ≡ added s text
-unfolding added
-absorbed s text {left} {n} {used} {c} {rest} t count u p q =
-    simp (
-      t,
-      p ∙ ap₂ (λ (h k : ℕ). chain (cipher (s .width) (s .«mac_keys»)) (s .chain) (take h (s .tail) ++ text) k) u count,
-      q ∙ ap₂ (λ (h k : ℕ). tailOf (drop (16 * k) (take h (s .tail) ++ text))) u count,
-    )
+-- with the fields that a piece leaves, a state is the one with the piece
+pub absorbed : (s : Stream) (text : List ℕ) {left : Absorbed} → Leaves (cipher (s .width) (s .«mac_keys»)) (s .chain) (s .total) (s .tail) text left → Absorbs s text left
+unfolding added addedWork
+absorbed s text l = record { state = simp (l .chain .block, l .total, l .tailLen, l .tail); work = l .chain .work }
 
 -- ---- feed and finish
 

@@ -7,9 +7,21 @@ ghost use Rattle.aes.specs.Work.{Reports};
 ghost use Rattle.s2v.specs.S2v.{tailLength};
 ghost use Rattle.keystream.specs.Pieces.{pieceWork};
 ghost use Rattle.siv.specs.Calls.{limit};
-ghost use Rattle.stream.specs.State.{tagOfState, tagOfStateWork, streamedAt, keptAt};
+ghost use Rattle.stream.specs.State.{Absorbs, tagOfState, tagOfStateWork, streamedAt, keptAt};
 use crate::Stream;
 use aes::Counted;
+use tail::Absorbed;
+
+// What a piece of plaintext makes of the fields of a state that it changes.
+pub(crate) fn absorb(s: Stream, piece: &[u8]) -> Absorbed
+    requires { ⌜ (s .width ≤ 32) × (s .«tail_len» ≡ tailLength (s .total)) × (s .total + length (now piece) ≤ limit) ⌝ }
+    ensures { λ r. ⌜ Absorbs s (now (piece .entry)) r ⌝ }
+{
+    let keys = s.mac_keys;
+    let c = s.chain;
+    let old = s.tail;
+    tail::absorb(s.width, &keys, c, s.total, old, s.tail_len, piece)
+}
 
 // V of all that was added.
 pub(crate) fn tag_of_state(s: Stream) -> Counted

@@ -1,16 +1,11 @@
-// Which refusal is due, from a state and from lengths.
+// Which states a call takes.
 ghost use mathlib.Core.Path.{_≡_};
 ghost use mathlib.Core.Bool.{not, _&&_};
-ghost use Prim.Native.Nat.{_+_, _≤_};
 ghost use lib.Dec.{eqb, ltb};
 ghost use lib.ListN.{length};
 ghost use Rattle.s2v.specs.S2v.{tailLength};
-ghost use Rattle.answers.specs.Answer.{outcomeOf, first, numberAlone};
 ghost use Rattle.stream.specs.State.{writtenLimit, streamPlace, keptFits, fits};
-ghost use Rattle.stream.specs.Steps.{addRows, turnRows, writeRows, feedRows, finishRows};
 use crate::Stream;
-use answers::Answer;
-use answers::Refusal;
 
 // The most that written may be in a stage.
 fn written_limit(stage: u8, total: usize) -> usize
@@ -54,7 +49,7 @@ fn kept_fits(stage: u8, s: Stream) -> bool
 }
 
 // Whether a state is one for a call that wants a stage.
-fn fits(wanted: u8, s: Stream) -> bool
+pub(crate) fn fits(wanted: u8, s: Stream) -> bool
     ensures { λ r. ⌜ r ≡ fits wanted s ⌝ }
 {
     if s.stage != wanted {
@@ -79,61 +74,11 @@ fn fits(wanted: u8, s: Stream) -> bool
     octets::zero_from(&tail, s.tail_len)
 }
 
-// Whether total with n bytes more is past a limit.
-fn passes(most: usize, total: usize, n: usize) -> bool
-    requires { ⌜ total ≤ most ⌝ }
-    ensures { λ r. ⌜ r ≡ ltb most (total + n) ⌝ }
-{
-    most - total < n
-}
-
 // Whether a tag has a tag's length.
 pub(crate) fn is_tag(tag: &[u8]) -> bool
     ensures { λ r. ⌜ r ≡ eqb (length (now (tag .entry))) 16 ⌝ }
 {
     tag.len() == Stream::TAG_LEN
-}
-
-// The refusals of add.
-pub(crate) fn judge_add(s: Stream, n: usize) -> Answer
-    ensures { λ r. ⌜ outcomeOf r 0 ≡ numberAlone (first (addRows s n)) ⌝ }
-{
-    if !fits(1, s) {
-        return Answer::Refused(Refusal::State);
-    }
-    if passes(Stream::LIMIT, s.total, n) {
-        return Answer::Refused(Refusal::TooLong);
-    }
-    Answer::Ok(0)
-}
-
-// The refusals of turn.
-pub(crate) fn judge_turn(s: Stream, output: usize) -> Answer
-    ensures { λ r. ⌜ outcomeOf r 0 ≡ numberAlone (first (turnRows s output)) ⌝ }
-{
-    if !fits(1, s) {
-        return Answer::Refused(Refusal::State);
-    }
-    if output < Stream::TAG_LEN {
-        return Answer::Refused(Refusal::OutputShort);
-    }
-    Answer::Ok(0)
-}
-
-// The refusals of write.
-pub(crate) fn judge_write(s: Stream, n: usize, output: usize) -> Answer
-    ensures { λ r. ⌜ outcomeOf r 0 ≡ numberAlone (first (writeRows s n output)) ⌝ }
-{
-    if !fits(2, s) {
-        return Answer::Refused(Refusal::State);
-    }
-    if passes(s.total, s.written, n) {
-        return Answer::Refused(Refusal::TooLong);
-    }
-    if output < n {
-        return Answer::Refused(Refusal::OutputShort);
-    }
-    Answer::Ok(0)
 }
 
 // Whether close is due: a state in stage 2 that has written all that was added.
@@ -147,33 +92,4 @@ pub(crate) fn closes(s: Stream) -> bool
         return false;
     }
     true
-}
-
-// The refusals of feed.
-pub(crate) fn judge_feed(s: Stream, n: usize, output: usize) -> Answer
-    ensures { λ r. ⌜ outcomeOf r 0 ≡ numberAlone (first (feedRows s n output)) ⌝ }
-{
-    if !fits(3, s) {
-        return Answer::Refused(Refusal::State);
-    }
-    if passes(Stream::LIMIT, s.total, n) {
-        return Answer::Refused(Refusal::TooLong);
-    }
-    if output < s.total + n {
-        return Answer::Refused(Refusal::OutputShort);
-    }
-    Answer::Ok(0)
-}
-
-// The refusals of finish but for a forged string.
-pub(crate) fn judge_finish(s: Stream, output: usize) -> Answer
-    ensures { λ r. ⌜ outcomeOf r 0 ≡ numberAlone (first (finishRows s output)) ⌝ }
-{
-    if !fits(3, s) {
-        return Answer::Refused(Refusal::State);
-    }
-    if output < s.total {
-        return Answer::Refused(Refusal::OutputShort);
-    }
-    Answer::Ok(0)
 }
