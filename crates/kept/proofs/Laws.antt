@@ -18,7 +18,7 @@ use Rattle.keystream.proofs.Laws.{pieceWork-within, pieceWork-beyond, pieceWork
 module _ (E : List ℕ → List ℕ) (sized : (b : List ℕ) → length (E b) ≡ 16) (v kept : List ℕ) (long : length kept ≡ 16) (place : ℕ) (text l : List ℕ) (at n : ℕ)
     (few : n ≡ min (leftOver place) (length text)) where
   -- as the code has it: `&piece[..n]` and `&kept[place % 16..]`
-  abbrev pub fromKept : List ℕ
+  abbrev fromKept : List ℕ
   fromKept = xors (take n text) (take (16 - place % 16) (drop (place % 16) kept))
 
   from-kept : fromKept ≡ xors (take n text) (drop (place % 16) kept)
@@ -42,7 +42,7 @@ module _ (E : List ℕ → List ℕ) (sized : (b : List ℕ) → length (E b) �
 
   -- where more follow, from the next block on: `&piece[n..]`
   module _ (more : n ≡ length text → ⊥) where
-    abbrev pub fromNew : List ℕ
+    abbrev fromNew : List ℕ
     fromNew = take (length text - n) (drop n text)
 
     from-new : fromNew ≡ drop n text

@@ -20,7 +20,7 @@ use Rattle.keystream.specs.Pieces.{noBlock, begunBlock, leftOver, newBlo
 -- ---- strings
 
 -- what stands beyond the end of `s` does not count in a xor into it
-pub xors-take : (s t : List ℕ) → xors s (take (length s) t) ≡ xors s t
+xors-take : (s t : List ℕ) → xors s (take (length s) t) ≡ xors s t
 xors-take s t =
     ap (λ (l : List ℕ). xors l (take (length s) t)) (sym (take-all (length s) s (omega arith)))
     ∙ sym (take-xors (length s) s t)
@@ -66,12 +66,12 @@ module _ (E : List ℕ → List ℕ) (sized : (b : List ℕ) → length (E b) �
       ∙ ap (take n) (streamBlocks-add E v 0 j (k - j))
       ∙ take-append-le n (streamBlocks E v 0 j) (streamBlocks E v (0 + j) (k - j)) (omega (arith, length-streamBlocks 0 j))
 
-  pub length-keyStream : (n : ℕ) → length (keyStream E v n) ≡ n
+  length-keyStream : (n : ℕ) → length (keyStream E v n) ≡ n
   unfolding keyStream
   length-keyStream n = length-take-le n (streamBlocks E v 0 (blocksBegun n)) (omega (arith, length-streamBlocks 0 (blocksBegun n)))
 
   -- a shorter key stream is the front of a longer one
-  pub take-keyStream : (n m : ℕ) → n ≤ m → take n (keyStream E v m) ≡ keyStream E v n
+  take-keyStream : (n m : ℕ) → n ≤ m → take n (keyStream E v m) ≡ keyStream E v n
   unfolding keyStream
   take-keyStream n m h =
       take-take n m (streamBlocks E v 0 (blocksBegun m)) h
@@ -210,7 +210,7 @@ module _ (E : List ℕ → List ℕ) (v : List ℕ) where
       ap₂ (λ (m : ℕ) (l : List ℕ). cond (eqb ((place + n) % 16) 0) noBlock (drop (16 * m) l)) (newBlocks-none place n h) (atHand-within kept place n h)
 
 module _ (E : List ℕ → List ℕ) (sized : (b : List ℕ) → length (E b) ≡ 16) (v : List ℕ) where
-  pub length-begunBlock : (n : ℕ) → length (begunBlock E v n) ≡ 16
+  length-begunBlock : (n : ℕ) → length (begunBlock E v n) ≡ 16
   unfolding begunBlock
   length-begunBlock n = go (eqb (n % 16) 0)
     where

@@ -33,7 +33,7 @@ put-nil l at = ap₂ (λ (p : List ℕ) (n : ℕ). p ++ drop n l) (append-nil (t
 
 -- ---- pieces of the key stream
 
-pub xorStream-none : (E : List ℕ → List ℕ) (v l : List ℕ) (at p : ℕ) (s : List ℕ) → length s ≡ 0 → l ≡ put l at (xorStream E v p s)
+xorStream-none : (E : List ℕ → List ℕ) (v l : List ℕ) (at p : ℕ) (s : List ℕ) → length s ≡ 0 → l ≡ put l at (xorStream E v p s)
 unfolding xorStream xors
 xorStream-none E v l at p [] e = sym (put-nil l at)
 xorStream-none E v l at p (x ∷ s) e = absurd (omega arith)

@@ -1,4 +1,4 @@
-// Which states a call takes.
+// Which states and which tags a call takes.
 ghost use mathlib.Core.Path.{_≡_};
 ghost use mathlib.Core.Bool.{not, _&&_};
 ghost use lib.Dec.{eqb, ltb};
