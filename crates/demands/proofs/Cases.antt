@@ -5,7 +5,7 @@ use Rattle.octets.specs.Octets.{xors}
 use Rattle.field.specs.Field.{xtimes, products, mul, squares, inverse, bit, fromBits, affine, sbox}
 use Rattle.cmac.specs.Cmac.{shifted, double, pad}
 use Rattle.s2v.specs.S2v.{xorend, tailLength}
-use Rattle.ctr.specs.Counter.{plus}
+use Rattle.counter.specs.Counter.{plus}
 use Rattle.demands.specs.Cases.{Cases}
 
 pub twelve-cases : Cases

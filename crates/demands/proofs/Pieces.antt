@@ -10,7 +10,7 @@ use lib.Dec.{eqb}
 use lib.ListN.{length, take, drop, replicate, length-append, length-take, length-drop, length-replicate}
 use lib.Seq.{drop-append-le, drop-drop, drop-at}
 use borrow.Author.Tests.{eq-eqb, le-ltb}
-use Rattle.octets.specs.Octets.{put}
+use Rattle.octets.specs.Octets.{put, allZero}
 use Rattle.octets.proofs.Strings.{length-put, take-put, drop-put}
 use Rattle.aes.specs.Aes.{aes}
 use Rattle.aes.specs.Cipher.{cipher}
@@ -22,16 +22,19 @@ use Rattle.cmac.proofs.Laws.{chain-work, chain-front, chain-add}
 use Rattle.header.specs.Blocks.{sixteenths, blocksOf}
 use Rattle.s2v.specs.S2v.{tailLength, headerResult, tagFrom, s2v}
 use Rattle.s2v.proofs.Laws.{tail-short, tail-long, Tail, tail, tag-tail, length-headerResult}
-use Rattle.ctr.specs.Counter.{clear, plus, xorStream, begunBlock, pieceWork, xorPiece, keptAfter}
-use Rattle.ctr.proofs.Laws.{stream-work, xorStream-append, xorPiece-own, keptAfter-own}
+use Rattle.counter.specs.Counter.{clear, plus}
+use Rattle.keystream.specs.KeyStream.{xorStream}
+use Rattle.keystream.specs.Pieces.{begunBlock, pieceWork, xorPiece, keptAfter}
+use Rattle.keystream.proofs.Laws.{stream-work, xorStream-append, xorPiece-own, keptAfter-own}
 use Rattle.whole.specs.Calls.{isKeyLength, limit}
 use Rattle.whole.specs.Siv.{macKey, ctrKey, tagOf, streamed}
 use Rattle.whole.proofs.Laws.{KeyHalves, halves, aes-cipher, length-streamed}
 use Rattle.whole.proofs.Lengths.{tag-lengths}
 use Rattle.head.specs.Head.{headOf}
 use Rattle.stream.specs.declared.Stream.{Stream}
-use Rattle.stream.specs.State.{start, allZero, writtenLimit, keptFits, fits, usedTail, tailOf, passedBlocks, stateWith, added, addedWork, tagOfState, tagOfStateWork, streamedAt, keptAt}
-use Rattle.stream.proofs.Laws.{Cut, cut, passed-more}
+use Rattle.stream.specs.State.{start, writtenLimit, keptFits, fits, usedTail, stateWith, added, addedWork, tagOfState, tagOfStateWork, streamedAt, keptAt}
+use Rattle.tail.specs.Tail.{tailOf, passedBlocks}
+use Rattle.tail.proofs.Laws.{Cut, cut, passed-more}
 use Rattle.demands.specs.Model.{chained}
 
 with-same : (s : Stream) {c c′ : List ℕ} {n n′ : ℕ} {t t′ : List ℕ} → c ≡ c′ → n ≡ n′ → t ≡ t′ → stateWith s c n (tailLength n) t ≡ stateWith s c′ n′ (tailLength n′) t′

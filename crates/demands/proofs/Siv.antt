@@ -13,7 +13,7 @@ use Rattle.aes.specs.Aes.{aes}
 use Rattle.aes.proofs.Widths.{length-cipher}
 use Rattle.cmac.specs.Cmac.{cmacFrom}
 use Rattle.s2v.specs.S2v.{tagFrom, tag, s2v}
-use Rattle.ctr.proofs.Laws.{xorStream-undo}
+use Rattle.keystream.proofs.Laws.{xorStream-undo}
 use Rattle.whole.proofs.Laws.{length-streamed}
 use Rattle.whole.specs.Siv.{ctrKey, tagOf, streamed, sealed, opened, genuine}
 

@@ -9,20 +9,21 @@ use lib.Dec.{eqb, ltb}
 use lib.ListN.{length, take, drop, replicate, length-append, length-replicate}
 use lib.Seq.{take-at, drop-at}
 use borrow.Author.Tests.{ltb-false, le-ltb}
-use Rattle.octets.specs.Octets.{put, same}
+use Rattle.octets.specs.Octets.{put, same, allZero}
 use Rattle.octets.proofs.Strings.{length-put, put-put}
 use Rattle.aes.specs.Aes.{aes}
 use Rattle.cmac.specs.Cmac.{zeros}
 use Rattle.header.specs.Header.{strings}
 use Rattle.header.specs.Blocks.{sixteenths, blocksOf}
-use Rattle.ctr.specs.Counter.{xorStream, begunBlock, pieceWork}
+use Rattle.keystream.specs.KeyStream.{xorStream}
+use Rattle.keystream.specs.Pieces.{begunBlock, pieceWork}
 use Rattle.answers.specs.Answer.{first, success, numberAlone, forged}
 use Rattle.answers.proofs.Laws.{none-where}
 use Rattle.whole.specs.Calls.{limit, scratchNeed}
 use Rattle.whole.specs.Siv.{ctrKey, tagOf, streamed, opened, genuine}
 use Rattle.whole.proofs.Laws.{by-tag, length-streamed, put-over}
 use Rattle.stream.specs.declared.Stream.{Stream}
-use Rattle.stream.specs.State.{ended, allZero, keptFits, fits, added, addedWork, tagOfState, tagOfStateWork, streamedAt, streamedWith}
+use Rattle.stream.specs.State.{ended, keptFits, fits, added, addedWork, tagOfState, tagOfStateWork, streamedAt, streamedWith}
 use Rattle.stream.specs.Steps.{StepResult, doneStep, refusedStep, settle, feedRows, turned, wrote, deciphered, addStep, turnStep, writeStep, closeStep, feedStep, forgedStep, finishStep}
 use Rattle.stream.proofs.Laws.{length-streamedAt}
 use Rattle.demands.specs.Model.{ModelState, wants, chained, After, wholeAccepts, shown, outputBefore, outputAfter, modelAfter, countAfter, workAfter, modelStep}

@@ -8,6 +8,7 @@ use native.Mathlib.Decide.{ℕ-discrete}
 use lib.Dec.{eqb, ltb}
 use lib.ListN.{drop}
 use borrow.Author.Tests.{eq-eqb, ne-eqb}
+use Rattle.octets.specs.Octets.{allZero}
 use Rattle.aes.specs.Aes.{isWidth}
 use Rattle.s2v.specs.S2v.{tailLength}
 use Rattle.answers.specs.Answer.{Outcome, Row}
@@ -15,7 +16,7 @@ use Rattle.whole.specs.Calls.{limit}
 use Rattle.whole.proofs.Laws.{length-streamed}
 use Rattle.head.specs.declared.Head.{Head}
 use Rattle.stream.specs.declared.Stream.{Stream}
-use Rattle.stream.specs.State.{ended, allZero, writtenLimit, keptFits, fits, added, addedWork, tagOfState, tagOfStateWork, streamedAt, keptAt}
+use Rattle.stream.specs.State.{ended, writtenLimit, keptFits, fits, added, addedWork, tagOfState, tagOfStateWork, streamedAt, keptAt}
 use Rattle.stream.specs.Steps.{StepResult, doneStep, refusedStep, settle, addStep, turnStep, writeStep, closeStep, feedStep, finishStep}
 use Rattle.demands.specs.First.{FirstStep, FirstFinish}
 use Rattle.demands.specs.Model.{ModelState, fresh, wants}

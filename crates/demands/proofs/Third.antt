@@ -15,7 +15,7 @@ use Rattle.aes.specs.Aes.{aes}
 use Rattle.cmac.specs.Cmac.{zeros}
 use Rattle.header.specs.Header.{strings}
 use Rattle.header.specs.Blocks.{blocksOfAll}
-use Rattle.ctr.specs.Counter.{xorStream}
+use Rattle.keystream.specs.KeyStream.{xorStream}
 use Rattle.answers.specs.Answer.{Outcome, success, numberAlone}
 use Rattle.answers.proofs.Laws.{first-pass}
 use Rattle.whole.specs.Calls.{limit, scratchNeed, headerRows, openCall}

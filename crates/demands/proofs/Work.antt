@@ -11,15 +11,16 @@ use lib.Dec.{eqb, ltb}
 use lib.ListN.{length, take, drop, length-append, take-append-drop, drop-of-length-le}
 use lib.Seq.{take-all}
 use borrow.Author.Tests.{eq-eqb, ne-eqb, lt-ltb, le-ltb, ltb-false}
-use Rattle.octets.specs.Octets.{put, same, xors}
+use Rattle.octets.specs.Octets.{put, same, xors, allZero}
 use Rattle.aes.specs.Aes.{isWidth, aes}
 use Rattle.aes.specs.Cipher.{cipher}
 use Rattle.aes.proofs.Widths.{length-cipher}
 use Rattle.header.specs.Blocks.{sixteenths, blocksOf, blocksOfAll}
 use Rattle.header.proofs.Laws.{blocks-append}
 use Rattle.s2v.specs.S2v.{tailLength}
-use Rattle.ctr.specs.Counter.{xorStream, noBlock, begunBlock, leftOver, pieceWork, xorPiece, keptAfter}
-use Rattle.ctr.proofs.Laws.{xorPiece-within, xorPiece-beyond, keptAfter-within, keptAfter-beyond}
+use Rattle.keystream.specs.KeyStream.{xorStream}
+use Rattle.keystream.specs.Pieces.{noBlock, begunBlock, leftOver, pieceWork, xorPiece, keptAfter}
+use Rattle.keystream.proofs.Laws.{xorPiece-within, xorPiece-beyond, keptAfter-within, keptAfter-beyond}
 use Rattle.answers.specs.Answer.{Outcome, Row, row, first, success, numberAlone}
 use Rattle.answers.proofs.Laws.{lacks, first-not, first-none, not-due}
 use Rattle.whole.specs.Calls.{CallResult, refusedCall, isKeyLength, limit, sealTable, sealNumber, sealCall, openNumber, openCall}
@@ -29,7 +30,7 @@ use Rattle.whole.specs.Work.{blockWork, plannedWork}
 use Rattle.whole.proofs.Laws.{seal-admits, openJudged, open-admits, open-passed, open-forged, length-streamed}
 use Rattle.whole.proofs.Ring.{Comes, goes, stops, ring-comes}
 use Rattle.stream.specs.declared.Stream.{Stream}
-use Rattle.stream.specs.State.{ended, allZero, writtenLimit, streamPlace, keptFits, fits, added, addedWork, tagOfState, tagOfStateWork, streamedAt, keptAt, streamedWith}
+use Rattle.stream.specs.State.{ended, writtenLimit, streamPlace, keptFits, fits, added, addedWork, tagOfState, tagOfStateWork, streamedAt, keptAt, streamedWith}
 use Rattle.stream.specs.Steps.{doneStep, refusedStep, settle, addStep, turned, turnStep, wrote, writeStep, closeStep, deciphered, feedStep, finishTable, forgedStep, finishStep}
 use Rattle.kinphlor.specs.Interface.{aeadLens, emptyNonce, fromC, sealFromC, openFromC, openRingFromC, plannedFromC}
 use Rattle.demands.specs.First.{ringTable, FirstRing}

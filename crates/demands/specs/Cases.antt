@@ -7,7 +7,7 @@ use lib.ListN.{replicate}
 use Rattle.field.specs.Field.{mul, sbox}
 use Rattle.cmac.specs.Cmac.{double, pad}
 use Rattle.s2v.specs.S2v.{xorend, tailLength}
-use Rattle.ctr.specs.Counter.{clear, plus}
+use Rattle.counter.specs.Counter.{clear, plus}
 
 -- n times a byte
 abbrev times : ℕ → ℕ → List ℕ

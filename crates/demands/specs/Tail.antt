@@ -6,15 +6,15 @@ use mathlib.Core.List.{List, [], _∷_}
 use Prim.Native.Nat.{ℕ, _+_}
 use lib.Dec.{eqb, ltb}
 use lib.ListN.{length, drop}
-use Rattle.octets.specs.Octets.{put, same}
+use Rattle.octets.specs.Octets.{put, same, allZero}
 use Rattle.aes.specs.Aes.{isWidth}
 use Rattle.s2v.specs.S2v.{tailLength}
-use Rattle.ctr.specs.Counter.{pieceWork}
+use Rattle.keystream.specs.Pieces.{pieceWork}
 use Rattle.answers.specs.Answer.{row, first}
 use Rattle.whole.specs.Calls.{limit}
 use Rattle.head.specs.declared.Head.{Head}
 use Rattle.stream.specs.declared.Stream.{Stream}
-use Rattle.stream.specs.State.{ended, allZero, writtenLimit, keptFits, stateWith, added, addedWork, tagOfState, tagOfStateWork, streamedAt}
+use Rattle.stream.specs.State.{ended, writtenLimit, keptFits, stateWith, added, addedWork, tagOfState, tagOfStateWork, streamedAt}
 use Rattle.stream.specs.Steps.{StepResult, doneStep, refusedStep, settle, turned, wrote, deciphered, forgedStep}
 use Rattle.demands.specs.Model.{ModelState}
 use Rattle.demands.specs.Run.{Begin, sealer, opener, Start, Call, add, turn, write, close, feed, finish, begunFrom, begun, call, lent, Run, runBy, run}

@@ -6,18 +6,19 @@ use mathlib.Core.List.{List, [], _∷_, _++_}
 use Prim.Native.Nat.{ℕ, _+_, _-_, _*_, _%_}
 use lib.Dec.{eqb, ltb}
 use lib.ListN.{length, take, drop}
-use Rattle.octets.specs.Octets.{xors}
+use Rattle.octets.specs.Octets.{xors, allZero}
 use Rattle.aes.specs.Aes.{aes}
 use Rattle.aes.specs.Cipher.{cipher}
 use Rattle.cmac.specs.Cmac.{zeros}
 use Rattle.header.specs.Blocks.{blocksOf}
-use Rattle.ctr.specs.Counter.{xorStream, begunBlock, leftOver}
+use Rattle.keystream.specs.KeyStream.{xorStream}
+use Rattle.keystream.specs.Pieces.{begunBlock, leftOver}
 use Rattle.whole.specs.Calls.{CallResult, sealCall, openCall}
 use Rattle.whole.specs.Ring.{slotCount, RingResult, openRing}
 use Rattle.whole.specs.Siv.{ctrKey}
 use Rattle.whole.specs.Work.{blockWork, plannedWork}
 use Rattle.stream.specs.declared.Stream.{Stream}
-use Rattle.stream.specs.State.{allZero, streamPlace, tagOfStateWork, streamedAt, keptAt, streamedWith}
+use Rattle.stream.specs.State.{streamPlace, tagOfStateWork, streamedAt, keptAt, streamedWith}
 use Rattle.stream.specs.Steps.{refusedStep}
 use Rattle.kinphlor.specs.Interface.{sealFromC, openFromC, openRingFromC, plannedFromC}
 use Rattle.demands.specs.Model.{ModelState, wants, chained, sealTag}

@@ -1,3 +1,4 @@
 pub mod Bits
 pub mod Strings
 pub mod Tests
+mod Zeros

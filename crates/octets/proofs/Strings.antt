@@ -52,13 +52,6 @@ unfolding xors
 xors-nil [] = refl
 xors-nil (x ∷ a) = refl
 
-pub drop-xors : (n : ℕ) (a b : List ℕ) → drop n (xors a b) ≡ xors (drop n a) (drop n b)
-unfolding xors
-drop-xors zero a b = refl
-drop-xors (suc n) [] b = refl
-drop-xors (suc n) (x ∷ a) [] = sym (xors-nil (drop n a))
-drop-xors (suc n) (x ∷ a) (y ∷ b) = drop-xors n a b
-
 -- zeros at the end of what is xored in change nothing
 pub xors-zeros : (a b : List ℕ) (n : ℕ) → xors a (b ++ replicate n 0) ≡ xors a b
 unfolding xors

@@ -1,4 +1,4 @@
--- Byte strings as lists of numbers: xor, writing a part, comparison.
+-- Byte strings as lists of numbers: xor, writing a part, comparison, zeros.
 -- Assumes nothing.
 use mathlib.Core.Bool.{Bool, true, false, _&&_}
 use mathlib.Core.List.{List, [], _∷_, _++_}
@@ -32,3 +32,8 @@ same [] [] = true
 same [] (y ∷ b) = false
 same (x ∷ a) [] = false
 same (x ∷ a) (y ∷ b) = eqb x y && same a b
+
+-- whether a string is zeros alone
+unfoldable pub allZero : List ℕ → Bool
+allZero [] = true
+allZero (b ∷ l) = eqb b 0 && allZero l

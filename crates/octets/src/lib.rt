@@ -1,8 +1,10 @@
 // Byte strings: blocks of 16 bytes by value, and parts of lent slices.
 ghost use mathlib.Core.Path.{_≡_};
+ghost use mathlib.Core.Bool.{_&&_, _||_};
 ghost use Prim.Native.Nat.{_+_, _≤_};
-ghost use lib.ListN.{length, replicate};
-ghost use Rattle.octets.specs.Octets.{xors, put, part, same};
+ghost use lib.Dec.{eqb, ltb};
+ghost use lib.ListN.{length, drop, replicate};
+ghost use Rattle.octets.specs.Octets.{xors, put, part, same, allZero};
 
 // A block: 16 bytes, byte 0 first.
 pub type Block = [u8; 16];
@@ -81,4 +83,30 @@ pub fn same_block(a: Block, b: Block) -> bool
         i += 1;
     }
     diff == 0
+}
+
+// Whether what was zero so far is, with a byte more at place i, which counts from place at on.
+fn still_zero(zero: bool, i: usize, at: usize, b: u8) -> bool
+    ensures { λ r. ⌜ r ≡ (zero && (ltb i at || eqb b 0)) ⌝ }
+{
+    if i < at {
+        return zero;
+    }
+    if b == 0 {
+        return zero;
+    }
+    false
+}
+
+// Whether the bytes of a slice from a place on are zero; it reads all of them, which the compiler does by sixteens.
+pub fn zero_from(s: &[u8], at: usize) -> bool
+    ensures { λ r. ⌜ r ≡ allZero (drop at (now (s .entry))) ⌝ }
+{
+    let mut zero = true;
+    let mut i = 0;
+    while i < s.len() {
+        zero = still_zero(zero, i, at, s[i]);
+        i += 1;
+    }
+    zero
 }

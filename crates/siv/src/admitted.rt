@@ -69,7 +69,7 @@ fn stream(engine: &Engine, key: &[u8], v: Block, src: &[u8], dst: &mut [u8], at:
 {
     let width = key.len() / 2;
     let keys = aes::round_keys(engine, &key[width..]);
-    let end = ctr::xor_from(engine, width, &keys, v, 0, src, dst, at);
+    let end = keystream::xor_from(engine, width, &keys, v, 0, src, dst, at);
     end.work
 }
 

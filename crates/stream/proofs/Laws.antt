@@ -1,31 +1,31 @@
--- Laws of joined strings, of what refusal 9 judges and of the calls' results.
+-- Laws of what refusal 9 judges, of the tail and of the calls' results.
 -- Assumes nothing.
 use mathlib.Core.Path.{_≡_, refl, ap, ap₂, sym, subst, _∙_}
-use mathlib.Core.Bool.{Bool, true, false, not, cond, _&&_, _||_, and-eq-true-iff}
+use mathlib.Core.Bool.{Bool, true, false, not, cond, _&&_, and-eq-true-iff}
 use mathlib.Core.List.{List, [], _∷_, _++_, append-assoc}
-use Prim.Native.Nat.{ℕ, _+_, _-_, _*_, _/_, _%_, _≤_, _<_, min}
-use native.Mathlib.Numerals.{add-one}
-use native.Mathlib.Decide.{decLt, ℕ-discrete}
+use Prim.Native.Nat.{ℕ, _+_, _-_, _≤_}
+use native.Mathlib.Decide.{ℕ-discrete}
 use native.Mathlib.Omega.{arith}
 use lib.Dec.{eqb, ltb}
-use lib.ListN.{length, getD, take, drop, replicate, length-drop, drop-of-length-le}
-use lib.Seq.{take-all, take-append-le, take-append-add, drop-append-le, drop-append-add, drop-cons, length-take-le, take-at, drop-at}
-use borrow.Author.Tests.{eqb-true, eq-eqb, ne-eqb, lt-ltb, le-ltb, ltb-false, not-true, not-false}
-use Rattle.octets.specs.Octets.{xors, put, part, same}
-use Rattle.octets.proofs.Strings.{part-to, length-xors, put-put}
+use lib.ListN.{length, take, drop, replicate}
+use lib.Seq.{take-all, length-take-le, take-at, drop-at}
+use borrow.Author.Tests.{eqb-true, eq-eqb, ne-eqb, ltb-false, not-true, not-false}
+use Rattle.octets.specs.Octets.{put, part, same}
+use Rattle.octets.proofs.Strings.{part-to}
 use Rattle.aes.specs.Aes.{isWidth}
 use Rattle.aes.specs.Cipher.{cipher}
-use Rattle.aes.proofs.Widths.{width, length-cipher}
+use Rattle.aes.proofs.Widths.{width}
 use Rattle.cmac.specs.Cmac.{chain}
 use Rattle.s2v.specs.S2v.{tailLength}
-use Rattle.s2v.proofs.Laws.{Tail, tail, tail-short, tail-long}
-use Rattle.ctr.specs.Counter.{keyStreamWork, xorStream, noBlock, begunBlock, leftOver, pieceWork, xorPiece, keptAfter}
-use Rattle.ctr.proofs.Laws.{pieceWork-within, pieceWork-beyond, pieceWork-fresh, length-xorPiece, xorPiece-within, keptAfter-within, xorPiece-beyond, keptAfter-beyond, xorPiece-fresh, keptAfter-fresh}
+use Rattle.s2v.proofs.Laws.{tail}
+use Rattle.keystream.proofs.Laws.{length-xorPiece}
 use Rattle.answers.specs.declared.Answer.{Answer}
 use Rattle.answers.specs.declared.Answer.the-variants.{Ok, Refused}
 use Rattle.answers.specs.declared.Refusal.the-variants.{Forged}
 use Rattle.answers.specs.Answer.{Outcome, Row, row, first, outcomeOf, success, numberAlone, forged}
 use Rattle.answers.proofs.Laws.{lacks, outcome-number, outcome-work, not-due, first-not, first-pass, first-stop, first-append}
+use Rattle.tail.specs.declared.Absorbed.{Absorbed}
+use Rattle.tail.specs.Tail.{Leaves}
 use Rattle.whole.specs.Calls.{limit}
 use Rattle.head.specs.declared.Head.{Head}
 use Rattle.head.specs.declared.Made.{Made}
@@ -33,59 +33,10 @@ use Rattle.head.specs.Head.{MakeResult, DidMake, settleHead}
 use Rattle.head.proofs.Laws.{settle-made, settle-refused}
 use Rattle.stream.specs.declared.Step.{Step}
 use Rattle.stream.specs.declared.Stream.{Stream}
-use Rattle.stream.specs.State.{allZero, writtenLimit, keptFits, fits, passedBlocks, leavingBlocks, tailOf, stateWith, added, ended, tagOfState, tagOfStateWork, streamedAt, keptAt}
+use Rattle.stream.specs.State.{writtenLimit, keptFits, fits, Absorbs, added, addedWork, ended, tagOfState, tagOfStateWork, streamedAt}
 use Rattle.stream.specs.Steps.{StepResult, DidStep, refusedStep, settle, beginBy, tagRows, finishStep, addRows, turnRows, writeRows, feedRows, finishRows, finishTable}
 
--- ---- parts of two joined strings
-
-module _ (a b : List ℕ) (at n : ℕ) where
-  -- a part that lies in the second string
-  pub part-right : length a ≤ at → part (a ++ b) at n ≡ part b (at - length a) n
-  part-right h =
-      let place : at ≡ length a + (at - length a) = omega arith in
-      ap (take n) (ap (λ (k : ℕ). drop k (a ++ b)) place ∙ drop-append-add a b (at - length a))
-
-  -- a part that lies in the first
-  pub part-left : at + n ≤ length a → part (a ++ b) at n ≡ part a at n
-  part-left h = ap (take n) (drop-append-le at a b (omega arith)) ∙ take-append-le n (drop at a) b (simp length-drop (omega arith))
-
-  -- a part that lies in both
-  pub part-seam : at ≤ length a → length a - at ≤ n → part (a ++ b) at n ≡ drop at a ++ take (n - (length a - at)) b
-  part-seam h k =
-      let count : n ≡ length (drop at a) + (n - (length a - at)) = simp length-drop (omega arith) in
-      ap (take n) (drop-append-le at a b h) ∙ ap (λ (m : ℕ). take m (drop at a ++ b)) count ∙ take-append-add (drop at a) b (n - (length a - at))
-
 -- ---- what refusal 9 judges
-
--- the bytes from place at on that stand at i or behind it
-abbrev pub behind : List ℕ → ℕ → ℕ → List ℕ
-behind s at i = drop (cond (ltb i at) at i) s
-
-pub zero-begin : (s : List ℕ) (at : ℕ) → behind s at 0 ≡ drop at s
-zero-begin s at = go (decLt 0 at)
-  where
-    go : Dec (0 < at) → behind s at 0 ≡ drop at s
-    go (yes k) = simp (lt-ltb 0 at k) refl
-    go (no k) = let e : at ≡ 0 = omega arith in simp e refl
-
-pub zero-more : (s : List ℕ) (at i : ℕ) → i < length s → allZero (behind s at i) ≡ ((ltb i at || eqb (getD s i 0) 0) && allZero (behind s at (i + 1)))
-unfolding allZero
-zero-more s at i h = go (decLt i at) (decLt (i + 1) at)
-  where
-    go : Dec (i < at) → Dec (i + 1 < at) → allZero (behind s at i) ≡ ((ltb i at || eqb (getD s i 0) 0) && allZero (behind s at (i + 1)))
-    go (yes k) (yes m) = simp (lt-ltb i at k, lt-ltb (i + 1) at m) refl
-    go (yes k) (no m) = let e : at ≡ i + 1 = omega arith in simp (lt-ltb i at k, le-ltb (i + 1) at (omega arith)) (ap (λ (n : ℕ). allZero (drop n s)) e)
-    go (no k) m =
-        simp (le-ltb i at (omega arith), le-ltb (i + 1) at (omega arith))
-        (ap allZero (drop-cons s i 0 h) ∙ ap (λ (n : ℕ). eqb (getD s i 0) 0 && allZero (drop n s)) (sym (add-one i)))
-
-pub zero-end : (s : List ℕ) (at i : ℕ) → length s ≤ i → allZero (behind s at i) ≡ true
-unfolding allZero
-zero-end s at i h = go (decLt i at)
-  where
-    go : Dec (i < at) → allZero (behind s at i) ≡ true
-    go (yes k) = simp (lt-ltb i at k) (ap allZero (drop-of-length-le s {i = at} (omega arith)))
-    go (no k) = simp (le-ltb i at (omega arith)) (ap allZero (drop-of-length-le s h))
 
 -- what a state that fits may be relied on for
 pub record Fit (wanted : ℕ) (s : Stream) : Type 0 where
@@ -111,6 +62,10 @@ fit wanted s e =
       tailLen = eqb-true (s .«tail_len») (tailLength (s .total)) (t .1);
     }
 
+-- what was judged of a state by a test that says whether it fits
+pub judged-by : (wanted : ℕ) (s : Stream) (rest : ℕ) {f : Bool} {o : Outcome} → f ≡ fits wanted s → o ≡ numberAlone (cond (not f) 9 rest) → o ≡ numberAlone (cond (not (fits wanted s)) 9 rest)
+judged-by wanted s rest e o = o ∙ ap (λ (f : Bool). numberAlone (cond (not f) 9 rest)) e
+
 -- ---- the calls' results
 
 module _ (test : Bool) (a b : StepResult) {step : Step} {last : List ℕ} where
@@ -128,29 +83,6 @@ refused a n done s output k e =
 
 pub done : (n : ℕ) (result : StepResult) (s : Stream) (output : List ℕ) {step : Step} {last : List ℕ} → n ≡ 0 → DidStep result step last → DidStep (settle n result s output) step last
 done n result s output e d = picked (eqb n 0) _ _ (eq-eqb n 0 e) d
-
--- ---- the tail
-
--- blocks before the tail, and the tail, are the whole
-pub record Cut (n : ℕ) : Type 0 where
-  pub blocks : 16 * passedBlocks n + tailLength n ≡ n
-  pub short : tailLength n < 32
-
-pub cut : (n : ℕ) → Cut n
-unfolding passedBlocks
-cut n = let t : Tail n = tail n in record { blocks = omega arith; short = t .short }
-
--- a longer string has as many blocks before its tail, or more
-pub passed-more : (n m : ℕ) → passedBlocks n ≤ passedBlocks (n + m)
-unfolding passedBlocks
-passed-more n m = go (decLt n 16) (decLt (n + m) 16)
-  where
-    go : Dec (n < 16) → Dec (n + m < 16) → (n - tailLength n) / 16 ≤ (n + m - tailLength (n + m)) / 16
-    go (yes h) k = let e : tailLength n ≡ n = tail-short n h in omega arith
-    go (no h) k =
-        let e : tailLength n ≡ 16 + n % 16 = tail-long n (omega arith) in
-        let f : tailLength (n + m) ≡ 16 + (n + m) % 16 = tail-long (n + m) (omega arith) in
-        omega arith
 
 -- ---- what the refusals leave
 
@@ -194,102 +126,10 @@ module _ (s : Stream) where
 
 -- ---- what is done once a call is admitted
 
--- what a piece leaves of a tail and puts into the chain, in numbers
-pub record Piece (total n : ℕ) : Type 0 where
-  pub count : 16 * (passedBlocks (total + n) - passedBlocks total) + tailLength (total + n) ≡ tailLength total + n
-  pub used : tailLength total ≤ 31
-  pub left : tailLength (total + n) < 32
-
-pub piece : (total n : ℕ) → Piece total n
-piece total n =
-    let a : Cut total = cut total in
-    let b : Cut (total + n) = cut (total + n) in
-    let h : passedBlocks total ≤ passedBlocks (total + n) = passed-more total n in
-    record { count = omega arith; used = omega arith; left = b .short }
-
--- the state that the code puts together is the one with the piece
-pub absorbed : (s : Stream) (text : List ℕ) {left n used : ℕ} {c rest : List ℕ} → left ≡ tailLength (s .total + length text) → n ≡ leavingBlocks s (length text)
-    → used ≡ tailLength (s .total) → c ≡ chain (cipher (s .width) (s .«mac_keys»)) (s .chain) (take used (s .tail) ++ text) n
-    → rest ≡ tailOf (drop (16 * n) (take used (s .tail) ++ text)) → stateWith s c (s .total + length text) left rest ≡ added s text
-unfolding added
-absorbed s text {left} {n} {used} {c} {rest} t count u p q =
-    simp (
-      t,
-      p ∙ ap₂ (λ (h k : ℕ). chain (cipher (s .width) (s .«mac_keys»)) (s .chain) (take h (s .tail) ++ text) k) u count,
-      q ∙ ap₂ (λ (h k : ℕ). tailOf (drop (16 * k) (take h (s .tail) ++ text))) u count,
-    )
-
--- ---- a piece of the key stream
-
--- n bytes of a piece are xored with what the kept block has for them
-module _ (s : Stream) (long : length (s .kept) ≡ 16) (place : ℕ) (text l : List ℕ) (at n : ℕ) (few : n ≡ min (leftOver place) (length text)) where
-  F : List ℕ → List ℕ
-  F = cipher (s .width) (s .«ctr_keys»)
-
-  -- as the code has it: `&piece[..n]` and `&kept[place % 16..]`
-  abbrev pub fromKept : List ℕ
-  fromKept = xors (take n text) (take (16 - place % 16) (drop (place % 16) (s .kept)))
-
-  from-kept : fromKept ≡ xors (take n text) (drop (place % 16) (s .kept))
-  from-kept = ap (xors (take n text)) (take-all (16 - place % 16) (drop (place % 16) (s .kept)) (omega (arith, length-drop (place % 16) (s .kept))))
-
-  length-fromKept : length fromKept ≡ n
-  length-fromKept = length-xors (take n text) _ ∙ length-take-le n text (omega arith)
-
-  -- where these are all
-  module _ (all : n ≡ length text) where
-    pub streamed-within : {last : List ℕ} → last ≡ put l at fromKept → last ≡ put l at (streamedAt s place text)
-    unfolding streamedAt F
-    streamed-within e =
-        e
-        ∙ ap (put l at) (from-kept ∙ ap (λ (t : List ℕ). xors t (drop (place % 16) (s .kept))) (take-all n text (omega arith)) ∙ sym (xorPiece-within F (s .v) (s .kept) place text (omega arith)))
-
-    pub kept-within : cond (eqb ((place + n) % 16) 0) noBlock (s .kept) ≡ keptAt s place (length text)
-    unfolding keptAt F
-    kept-within = ap (λ (m : ℕ). cond (eqb ((place + m) % 16) 0) noBlock (s .kept)) all ∙ sym (keptAfter-within F (s .v) (s .kept) place (length text) (omega arith))
-
-    pub work-within : 0 ≡ pieceWork place (length text)
-    work-within = sym (pieceWork-within place (length text) (omega arith))
-
-  -- where more follow, from the next block on: `&piece[n..]`
-  module _ (more : n ≡ length text → ⊥) where
-    abbrev pub fromNew : List ℕ
-    fromNew = take (length text - n) (drop n text)
-
-    from-new : fromNew ≡ drop n text
-    from-new = take-all (length text - n) (drop n text) (omega (arith, length-drop n text))
-
-    used-up : n ≡ leftOver place
-    used-up = omega (arith, few, more)
-
-    pub streamed-beyond : at + length text ≤ length l → {wrote last : List ℕ} → wrote ≡ put l at fromKept
-        → last ≡ put wrote (at + n) (xorPiece (cipher (s .width) (s .«ctr_keys»)) (s .v) noBlock (16 * ((place + n) / 16)) fromNew) → last ≡ put l at (streamedAt s place text)
-    unfolding streamedAt F
-    streamed-beyond room {wrote} w e =
-        let next : 16 * ((place + n) / 16) ≡ place + n = omega (arith, used-up) in
-        let seam : at + n ≡ at + length fromKept = ap (λ (k : ℕ). at + k) (sym length-fromKept) in
-        let rest : List ℕ = xorStream F (s .v) (place + n) (drop n text) in
-        e
-        ∙ ap (put wrote (at + n)) (xorPiece-fresh F (length-cipher _ _) (s .v) ((place + n) / 16) fromNew)
-        ∙ ap₂ (λ (x : List ℕ) (k : ℕ). put x (at + n) (xorStream F (s .v) k fromNew)) w next
-        ∙ ap₂ (λ (k : ℕ) (t : List ℕ). put (put l at fromKept) k (xorStream F (s .v) (place + n) t)) seam from-new
-        ∙ put-put l at fromKept rest (omega (arith, length-fromKept, few))
-        ∙ ap (λ (t : List ℕ). put l at (t ++ rest)) from-kept
-        ∙ ap (λ (k : ℕ). put l at (xors (take k text) (drop (place % 16) (s .kept)) ++ xorStream F (s .v) (place + k) (drop k text))) used-up
-        ∙ ap (put l at) (sym (xorPiece-beyond F (length-cipher _ _) (s .v) (s .kept) place text long (omega (arith, few, used-up))))
-
-    pub kept-beyond : keptAfter (cipher (s .width) (s .«ctr_keys»)) (s .v) noBlock (16 * ((place + n) / 16)) (length fromNew) ≡ keptAt s place (length text)
-    unfolding keptAt F
-    kept-beyond =
-        let end : 16 * ((place + n) / 16) + length fromNew ≡ place + length text = omega (arith, used-up, few, ap length from-new, length-drop n text) in
-        keptAfter-fresh F (length-cipher _ _) (s .v) ((place + n) / 16) (length fromNew)
-        ∙ ap (begunBlock F (s .v)) end
-        ∙ sym (keptAfter-beyond F (length-cipher _ _) (s .v) (s .kept) place (length text) long (omega (arith, few, used-up)))
-
-    pub work-beyond : pieceWork (16 * ((place + n) / 16)) (length fromNew) ≡ pieceWork place (length text)
-    work-beyond =
-        let count : length fromNew ≡ length text - leftOver place = omega (arith, used-up, ap length from-new, length-drop n text) in
-        pieceWork-fresh ((place + n) / 16) (length fromNew) ∙ ap keyStreamWork count ∙ sym (pieceWork-beyond place (length text) (omega (arith, few, used-up)))
+-- with the fields that a piece leaves, a state is the one with the piece
+pub absorbed : (s : Stream) (text : List ℕ) {left : Absorbed} → Leaves (cipher (s .width) (s .«mac_keys»)) (s .chain) (s .total) (s .tail) text left → Absorbs s text left
+unfolding added addedWork
+absorbed s text l = record { state = simp (l .chain .block, l .total, l .tailLen, l .tail); work = l .chain .work }
 
 -- ---- feed and finish
 

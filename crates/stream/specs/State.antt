@@ -1,21 +1,22 @@
 -- The stream state: which ones a call takes, and what a piece makes of one. Document 01, "Piecewise calls", and slips 4 and 5 of document 02.
 -- Assumes nothing.
 use mathlib.Core.Path.{_≡_}
-use mathlib.Core.Bool.{Bool, true, not, cond, _&&_, _||_}
-use mathlib.Core.List.{List, [], _∷_, _++_}
-use Prim.Native.Nat.{ℕ, _+_, _-_, _*_, _/_, _%_}
+use mathlib.Core.Bool.{Bool, not, cond, _&&_, _||_}
+use mathlib.Core.List.{List, _++_}
+use Prim.Native.Nat.{ℕ, _+_, _-_, _*_, _%_}
 use lib.Dec.{eqb, ltb}
 use lib.ListN.{length, take, drop, replicate}
-use Rattle.octets.specs.Octets.{put}
+use Rattle.octets.specs.Octets.{allZero}
 use Rattle.aes.specs.Aes.{isWidth}
 use Rattle.aes.specs.Cipher.{cipher}
 use Rattle.cmac.specs.Cmac.{zeros, subkeys, chain, chainWork}
 use Rattle.s2v.specs.S2v.{tailLength, tagFrom, tagFromWork}
-use Rattle.ctr.specs.Counter.{xorPiece, keptAfter}
+use Rattle.keystream.specs.Pieces.{xorPiece, keptAfter}
+use Rattle.tail.specs.declared.Absorbed.{Absorbed}
+use Rattle.tail.specs.Tail.{tailOf, leavingBlocks}
 use Rattle.whole.specs.Calls.{limit}
 use Rattle.head.specs.declared.Head.{Head}
 use Rattle.stream.specs.declared.Stream.{Stream}
-use Rattle.stream.specs.declared.tail.Absorbed.{Absorbed}
 
 -- the ended state: all fields zero
 abbrev pub ended : Stream
@@ -55,11 +56,6 @@ start h stage v =
       tail = replicate 31 0;
     }
 
--- whether a string is zeros alone
-unfoldable pub allZero : List ℕ → Bool
-allZero [] = true
-allZero (b ∷ l) = eqb b 0 && allZero l
-
 -- the most that written may be: total in stage 2, else 0
 abbrev pub writtenLimit : ℕ → ℕ → ℕ
 writtenLimit stage total = cond (eqb stage 2) total 0
@@ -87,14 +83,6 @@ fits wanted s =
 abbrev pub usedTail : Stream → List ℕ
 usedTail s = take (tailLength (s .total)) (s .tail)
 
--- a tail with these used bytes, its others zero
-abbrev pub tailOf : List ℕ → List ℕ
-tailOf t = put (replicate 31 0) 0 t
-
--- how many blocks of n bytes stand before their tail
-unfoldable pub passedBlocks : ℕ → ℕ
-passedBlocks n = (n - tailLength n) / 16
-
 -- a state with another chain, total, and tail with its length, and nothing else changed
 abbrev pub stateWith : Stream → List ℕ → ℕ → ℕ → List ℕ → Stream
 stateWith s c total len t =
@@ -114,21 +102,17 @@ stateWith s c total len t =
       tail = t;
     }
 
--- how many blocks leave the tail with a piece of n bytes more
-abbrev pub leavingBlocks : Stream → ℕ → ℕ
-leavingBlocks s n = passedBlocks (s .total + n) - passedBlocks (s .total)
-
 -- the state with a piece of plaintext more: whole blocks go from the tail into the chain until a tail's length is left
 unfoldable pub added : Stream → List ℕ → Stream
 added s piece =
     let total = s .total + length piece in
-    let n = leavingBlocks s (length piece) in
+    let n = leavingBlocks (s .total) (length piece) in
     let text = usedTail s ++ piece in
     let c = chain (cipher (s .width) (s .«mac_keys»)) (s .chain) text n in
     stateWith s c total (tailLength total) (tailOf (drop (16 * n) text))
 
 unfoldable pub addedWork : Stream → ℕ → ℕ
-addedWork s n = chainWork (leavingBlocks s n)
+addedWork s n = chainWork (leavingBlocks (s .total) n)
 
 -- the fields that a piece changes: with them a state is the one with the piece, and the work is its work
 pub record Absorbs (s : Stream) (piece : List ℕ) (fields : Absorbed) : Type 0 where

@@ -9,7 +9,7 @@ use lib.ListN.{length, replicate}
 use Rattle.octets.specs.Octets.{put, same}
 use Rattle.cmac.specs.Cmac.{zeros}
 use Rattle.header.specs.Header.{strings}
-use Rattle.ctr.specs.Counter.{pieceWork}
+use Rattle.keystream.specs.Pieces.{pieceWork}
 use Rattle.answers.specs.Answer.{Outcome, success, numberAlone, forged, outcomeOf, Row, row, first}
 use Rattle.whole.specs.Calls.{limit, headerRows}
 use Rattle.head.specs.declared.Head.{Head}

@@ -1,18 +1,27 @@
 // What is done once a call is admitted.
 ghost use mathlib.Core.Path.{_≡_};
-ghost use mathlib.Core.Bool.{cond};
-ghost use Prim.Native.Nat.{_+_, _%_, _≤_};
-ghost use lib.Dec.{eqb};
+ghost use Prim.Native.Nat.{_+_, _≤_};
 ghost use lib.ListN.{length};
 ghost use Rattle.octets.specs.Octets.{put};
 ghost use Rattle.aes.specs.Work.{Reports};
 ghost use Rattle.s2v.specs.S2v.{tailLength};
-ghost use Rattle.ctr.specs.Counter.{noBlock, pieceWork};
+ghost use Rattle.keystream.specs.Pieces.{pieceWork};
 ghost use Rattle.whole.specs.Calls.{limit};
-ghost use Rattle.stream.specs.State.{tagOfState, tagOfStateWork, streamedAt, keptAt};
+ghost use Rattle.stream.specs.State.{Absorbs, tagOfState, tagOfStateWork, streamedAt, keptAt};
 use crate::Stream;
 use aes::Counted;
-use octets::Block;
+use tail::Absorbed;
+
+// What a piece of plaintext makes of the fields of a state that it changes.
+pub(crate) fn absorb(s: Stream, piece: &[u8]) -> Absorbed
+    requires { ⌜ (s .width ≤ 32) × (s .«tail_len» ≡ tailLength (s .total)) × (s .total + length (now piece) ≤ limit) ⌝ }
+    ensures { λ r. ⌜ Absorbs s (now (piece .entry)) r ⌝ }
+{
+    let keys = s.mac_keys;
+    let c = s.chain;
+    let old = s.tail;
+    tail::absorb(s.width, &keys, c, s.total, old, s.tail_len, piece)
+}
 
 // V of all that was added.
 pub(crate) fn tag_of_state(s: Stream) -> Counted
@@ -30,34 +39,14 @@ pub(crate) fn tag_of_state(s: Stream) -> Counted
     s2v::tag_from(&engine, s.width, &keys, k, d, c, &tail[0..used])
 }
 
-// The block that is kept where no other was begun: none once it is used up.
-fn still_kept(kept: Block, end: usize) -> Block
-    ensures { λ r. ⌜ r ≡ cond (eqb (end % 16) 0) noBlock kept ⌝ }
-{
-    if end % 16 == 0 {
-        return [0u8; 16];
-    }
-    kept
-}
-
-// Writes a piece, xored with the state's key stream from a place of it on, at place at of a slice: what the kept block has for it, then new blocks; where none is needed, no table is built. Gives the block that is kept then, and the work.
+// Writes a piece, xored with the state's key stream from a place of it on, at place at of a slice. Gives the block that is kept then, and the work.
 pub(crate) fn stream_at(s: Stream, place: usize, piece: &[u8], dst: &mut [u8], at: usize) -> Counted
     requires { ⌜ (s .width ≤ 32) × (place + length (now piece) ≤ limit) × (at + length (now piece) ≤ length (now dst)) ⌝ }
     ensures kept { λ r. ⌜ Reports (keptAt s place (length (now (piece .entry)))) (pieceWork place (length (now (piece .entry)))) r ⌝ }
     ensures text { λ _. ⌜ now (dst .exit) ≡ put (now (dst .entry)) at (streamedAt s place (now (piece .entry))) ⌝ }
 {
-    let kept = s.kept;
-    let n = ctr::from_kept(place, piece.len());
-    octets::xor_at(dst, at, &piece[..n], &kept[place % 16..]);
-    if n == piece.len() {
-        return Counted {
-            block: still_kept(kept, place + n),
-            work: 0,
-        };
-    }
-    let engine = aes::engine();
     let keys = s.ctr_keys;
     let v = s.v;
-    let i = (place + n) / 16;
-    ctr::xor_from(&engine, s.width, &keys, v, i, &piece[n..], dst, at + n)
+    let block = s.kept;
+    kept::xor_piece(s.width, &keys, v, block, place, piece, dst, at)
 }

@@ -1,42 +1,11 @@
-// Which refusal is due, from a state and from lengths.
+// Which states and which tags a call takes.
 ghost use mathlib.Core.Path.{_≡_};
-ghost use mathlib.Core.Bool.{not, _&&_, _||_};
-ghost use Prim.Native.Nat.{_+_, _≤_};
+ghost use mathlib.Core.Bool.{not, _&&_};
 ghost use lib.Dec.{eqb, ltb};
-ghost use lib.ListN.{length, drop};
+ghost use lib.ListN.{length};
 ghost use Rattle.s2v.specs.S2v.{tailLength};
-ghost use Rattle.answers.specs.Answer.{outcomeOf, first, numberAlone};
-ghost use Rattle.stream.specs.State.{allZero, writtenLimit, streamPlace, keptFits, fits};
-ghost use Rattle.stream.specs.Steps.{addRows, turnRows, writeRows, feedRows, finishRows};
+ghost use Rattle.stream.specs.State.{writtenLimit, streamPlace, keptFits, fits};
 use crate::Stream;
-use answers::Answer;
-use answers::Refusal;
-
-// Whether what was zero so far is, with a byte more at place i, which counts from place at on.
-fn still_zero(zero: bool, i: usize, at: usize, b: u8) -> bool
-    ensures { λ r. ⌜ r ≡ (zero && (ltb i at || eqb b 0)) ⌝ }
-{
-    if i < at {
-        return zero;
-    }
-    if b == 0 {
-        return zero;
-    }
-    false
-}
-
-// Whether the bytes of a slice from a place on are zero; it reads all of them, which the compiler does by sixteens.
-fn zero_from(s: &[u8], at: usize) -> bool
-    ensures { λ r. ⌜ r ≡ allZero (drop at (now (s .entry))) ⌝ }
-{
-    let mut zero = true;
-    let mut i = 0;
-    while i < s.len() {
-        zero = still_zero(zero, i, at, s[i]);
-        i += 1;
-    }
-    zero
-}
 
 // The most that written may be in a stage.
 fn written_limit(stage: u8, total: usize) -> usize
@@ -76,11 +45,11 @@ fn kept_fits(stage: u8, s: Stream) -> bool
         return true;
     }
     let kept = s.kept;
-    zero_from(&kept, 0)
+    octets::zero_from(&kept, 0)
 }
 
 // Whether a state is one for a call that wants a stage.
-fn fits(wanted: u8, s: Stream) -> bool
+pub(crate) fn fits(wanted: u8, s: Stream) -> bool
     ensures { λ r. ⌜ r ≡ fits wanted s ⌝ }
 {
     if s.stage != wanted {
@@ -102,15 +71,7 @@ fn fits(wanted: u8, s: Stream) -> bool
         return false;
     }
     let tail = s.tail;
-    zero_from(&tail, s.tail_len)
-}
-
-// Whether total with n bytes more is past a limit.
-fn passes(most: usize, total: usize, n: usize) -> bool
-    requires { ⌜ total ≤ most ⌝ }
-    ensures { λ r. ⌜ r ≡ ltb most (total + n) ⌝ }
-{
-    most - total < n
+    octets::zero_from(&tail, s.tail_len)
 }
 
 // Whether a tag has a tag's length.
@@ -118,48 +79,6 @@ pub(crate) fn is_tag(tag: &[u8]) -> bool
     ensures { λ r. ⌜ r ≡ eqb (length (now (tag .entry))) 16 ⌝ }
 {
     tag.len() == Stream::TAG_LEN
-}
-
-// The refusals of add.
-pub(crate) fn judge_add(s: Stream, n: usize) -> Answer
-    ensures { λ r. ⌜ outcomeOf r 0 ≡ numberAlone (first (addRows s n)) ⌝ }
-{
-    if !fits(1, s) {
-        return Answer::Refused(Refusal::State);
-    }
-    if passes(Stream::LIMIT, s.total, n) {
-        return Answer::Refused(Refusal::TooLong);
-    }
-    Answer::Ok(0)
-}
-
-// The refusals of turn.
-pub(crate) fn judge_turn(s: Stream, output: usize) -> Answer
-    ensures { λ r. ⌜ outcomeOf r 0 ≡ numberAlone (first (turnRows s output)) ⌝ }
-{
-    if !fits(1, s) {
-        return Answer::Refused(Refusal::State);
-    }
-    if output < Stream::TAG_LEN {
-        return Answer::Refused(Refusal::OutputShort);
-    }
-    Answer::Ok(0)
-}
-
-// The refusals of write.
-pub(crate) fn judge_write(s: Stream, n: usize, output: usize) -> Answer
-    ensures { λ r. ⌜ outcomeOf r 0 ≡ numberAlone (first (writeRows s n output)) ⌝ }
-{
-    if !fits(2, s) {
-        return Answer::Refused(Refusal::State);
-    }
-    if passes(s.total, s.written, n) {
-        return Answer::Refused(Refusal::TooLong);
-    }
-    if output < n {
-        return Answer::Refused(Refusal::OutputShort);
-    }
-    Answer::Ok(0)
 }
 
 // Whether close is due: a state in stage 2 that has written all that was added.
@@ -173,33 +92,4 @@ pub(crate) fn closes(s: Stream) -> bool
         return false;
     }
     true
-}
-
-// The refusals of feed.
-pub(crate) fn judge_feed(s: Stream, n: usize, output: usize) -> Answer
-    ensures { λ r. ⌜ outcomeOf r 0 ≡ numberAlone (first (feedRows s n output)) ⌝ }
-{
-    if !fits(3, s) {
-        return Answer::Refused(Refusal::State);
-    }
-    if passes(Stream::LIMIT, s.total, n) {
-        return Answer::Refused(Refusal::TooLong);
-    }
-    if output < s.total + n {
-        return Answer::Refused(Refusal::OutputShort);
-    }
-    Answer::Ok(0)
-}
-
-// The refusals of finish but for a forged string.
-pub(crate) fn judge_finish(s: Stream, output: usize) -> Answer
-    ensures { λ r. ⌜ outcomeOf r 0 ≡ numberAlone (first (finishRows s output)) ⌝ }
-{
-    if !fits(3, s) {
-        return Answer::Refused(Refusal::State);
-    }
-    if output < s.total {
-        return Answer::Refused(Refusal::OutputShort);
-    }
-    Answer::Ok(0)
 }

@@ -2,7 +2,6 @@
 mod admitted;
 mod begin;
 mod judge;
-mod tail;
 
 ghost use mathlib.Core.Path.{_≡_};
 ghost use mathlib.Core.List.{[]};
@@ -15,7 +14,7 @@ use head::Head;
 use octets::Block;
 
 // The bytes that wait for the plaintext's end, and zeros behind them.
-pub type Tail = [u8; 31];
+pub type Tail = tail::Tail;
 
 // A stream state, of a sealer or an opener.
 pub struct Stream {
@@ -119,7 +118,7 @@ impl Stream {
     pub fn add(mut self, piece: &[u8]) -> Step
         ensures { λ r. ⌜ DidStep (addStep self (now (piece .entry))) r [] ⌝ }
     {
-        let answer = judge::judge_add(self, piece.len());
+        let answer = bounds::piece(judge::fits(1, self), Self::LIMIT, self.total, piece.len());
         if let Answer::Refused(_) = answer {
             return Step {
                 answer,
@@ -127,7 +126,7 @@ impl Stream {
                 work: 0,
             };
         }
-        let absorbed = tail::absorb(self, piece);
+        let absorbed = admitted::absorb(self, piece);
         let chain = absorbed.chain;
         let block = chain.block;
         let tail = absorbed.tail;
@@ -146,7 +145,7 @@ impl Stream {
     pub fn turn(mut self, output: &mut [u8]) -> Step
         ensures { λ r. ⌜ DidStep (turnStep self (now (output .entry))) r (now (output .exit)) ⌝ }
     {
-        let answer = judge::judge_turn(self, output.len());
+        let answer = bounds::room(judge::fits(1, self), Self::TAG_LEN, output.len());
         if let Answer::Refused(_) = answer {
             return Step {
                 answer,
@@ -171,7 +170,14 @@ impl Stream {
         ensures { λ r. ⌜ DidStep (writeStep self (now (piece .entry)) (now (output .entry))) r (now (output .exit)) ⌝ }
     {
         let n = piece.len();
-        let answer = judge::judge_write(self, n, output.len());
+        let answer = bounds::piece_to(
+            judge::fits(2, self),
+            self.total,
+            self.written,
+            n,
+            0,
+            output.len(),
+        );
         if let Answer::Refused(_) = answer {
             return Step {
                 answer,
@@ -213,7 +219,14 @@ impl Stream {
         ensures { λ r. ⌜ DidStep (feedStep self (now (piece .entry)) (now (output .entry))) r (now (output .exit)) ⌝ }
     {
         let n = piece.len();
-        let answer = judge::judge_feed(self, n, output.len());
+        let answer = bounds::piece_to(
+            judge::fits(3, self),
+            Self::LIMIT,
+            self.total,
+            n,
+            self.total,
+            output.len(),
+        );
         if let Answer::Refused(_) = answer {
             return Step {
                 answer,
@@ -225,7 +238,7 @@ impl Stream {
         let end = admitted::stream_at(self, at, piece, output, at);
         let kept = end.block;
         self.kept = kept;
-        let absorbed = tail::absorb(self, &output[at..at + n]);
+        let absorbed = admitted::absorb(self, &output[at..at + n]);
         let chain = absorbed.chain;
         let block = chain.block;
         let tail = absorbed.tail;
@@ -244,7 +257,7 @@ impl Stream {
     pub fn finish(self, output: &mut [u8]) -> Step
         ensures { λ r. ⌜ DidStep (finishStep self (now (output .entry))) r (now (output .exit)) ⌝ }
     {
-        let answer = judge::judge_finish(self, output.len());
+        let answer = bounds::room(judge::fits(3, self), self.total, output.len());
         if let Answer::Refused(_) = answer {
             return Step {
                 answer,

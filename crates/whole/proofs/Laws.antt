@@ -18,8 +18,8 @@ use Rattle.aes.specs.Cipher.{cipher}
 use Rattle.aes.specs.KeyExpansion.{roundKeys}
 use Rattle.header.specs.Header.{total, strings}
 use Rattle.s2v.specs.S2v.{s2v, s2vWork}
-use Rattle.ctr.specs.Counter.{xorStream}
-use Rattle.ctr.proofs.Laws.{length-xorStream}
+use Rattle.keystream.specs.KeyStream.{xorStream}
+use Rattle.keystream.proofs.Laws.{length-xorStream}
 use Rattle.answers.specs.declared.Answer.{Answer}
 use Rattle.answers.specs.declared.Answer.the-variants.{Ok}
 use Rattle.answers.specs.Answer.{Outcome, Row, row, first, outcomeOf, success, numberAlone, forged}

@@ -14,8 +14,8 @@ use Rattle.header.specs.Header.{total, strings}
 use Rattle.header.specs.Blocks.{sixteenths, blocksOf, blocksOfAll}
 use Rattle.s2v.specs.S2v.{absorbWork, headerResult, headerWork, tagFromWork, s2vWork}
 use Rattle.s2v.proofs.Laws.{tag-work, length-headerResult}
-use Rattle.ctr.specs.Counter.{blocksBegun, keyStreamWork}
-use Rattle.ctr.proofs.Laws.{stream-work}
+use Rattle.keystream.specs.KeyStream.{blocksBegun, keyStreamWork}
+use Rattle.keystream.proofs.Laws.{stream-work}
 use Rattle.whole.specs.Siv.{macKey, tagOfWork, streamedWork, sealedWork, opened, genuineWork}
 use Rattle.whole.specs.Work.{blockWork}
 use Rattle.whole.proofs.Laws.{length-opened}

@@ -7,7 +7,7 @@ use lib.ListN.{length, take, drop}
 use Rattle.octets.specs.Octets.{same}
 use Rattle.aes.specs.Aes.{aes}
 use Rattle.s2v.specs.S2v.{s2v, s2vWork}
-use Rattle.ctr.specs.Counter.{keyStreamWork, xorStream}
+use Rattle.keystream.specs.KeyStream.{keyStreamWork, xorStream}
 
 -- 2.6: the first half of the key serves S2V, the second half the counter
 abbrev pub macKey : List ℕ → List ℕ

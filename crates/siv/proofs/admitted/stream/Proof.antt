@@ -11,7 +11,7 @@ use Rattle.octets.proofs.Strings.{part-rest}
 use Rattle.aes.specs.Aes.{isWidth}
 use Rattle.aes.specs.KeyExpansion.{roundKeys}
 use Rattle.aes.proofs.Widths.{length-cipher}
-use Rattle.ctr.proofs.Laws.{pieceWork-fresh, xorPiece-fresh}
+use Rattle.keystream.proofs.Laws.{pieceWork-fresh, xorPiece-fresh}
 use Rattle.whole.specs.Siv.{streamedWork}
 use Rattle.whole.proofs.Laws.{KeyHalves, halves, stream-by-half}
 use Rattle.siv.proofs.admitted.stream.Statement.{statement}

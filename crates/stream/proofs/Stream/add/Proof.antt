@@ -3,25 +3,33 @@
 use mathlib.Core.Path.{_≡_, refl, ap}
 use lib.ListN.{length}
 use borrow.Author.Needs.{needs}
-use Rattle.answers.specs.Answer.{success, first}
+use Rattle.answers.specs.Answer.{outcomeOf, success, numberAlone, first}
 use Rattle.answers.proofs.Laws.{told-refused, passed}
 use Rattle.stream.specs.Steps.{addRows, addStep}
-use Rattle.stream.proofs.Laws.{refused, done, add-admits}
+use Rattle.stream.proofs.Laws.{judged-by, refused, done, add-admits}
 use Rattle.stream.proofs.Stream.add.Statement.{statement}
 use Rattle.stream.proofs.Stream.add.Tie as tie
 
-none : (c : tie.At-match-keys2) → first (addRows (c .before .before .before .args .self) (length (c .before .before .before .args .piece .now))) ≡ 0
-none c = passed (c .before .judge-add .result) _ (c .match .keys2) (c .before .judge-add .ensures)
+judged : (c : tie.After-piece)
+    → let args = c .before .before .before .args in
+    outcomeOf (c .piece .result) 0 ≡ numberAlone (first (addRows (args .self) (length (args .piece .now))))
+judged c = judged-by 1 _ _ (c .before .fits2 .ensures) (c .piece .ensures)
 
-judge-add-requires : tie.Need-judge-add-requires
-judge-add-requires c κs = search needs
+none : (c : tie.At-match-keys2) → let args = c .before .before .before .before .args in first (addRows (args .self) (length (args .piece .now))) ≡ 0
+none c = passed (c .before .piece .result) _ (c .match .keys2) (judged (c .before))
+
+fits-requires : tie.Need-fits-requires
+fits-requires c κs = search needs
+
+piece-requires : tie.Need-piece-requires
+piece-requires c κs = search needs
 
 enum-told : tie.Need-enum-told
 enum-told c = search needs
 
 returns : tie.Need-returns
 unfolding addStep
-returns c = refused (c .before .before .judge-add .result) _ _ _ _ (told-refused (c .before .before .judge-add .result) (c .before .match .keys1)) (c .before .before .judge-add .ensures)
+returns c = refused (c .before .before .piece .result) _ _ _ _ (told-refused (c .before .before .piece .result) (c .before .match .keys1)) (judged (c .before .before))
 
 enum-told-2 : tie.Need-enum-told-2
 enum-told-2 c = search needs
@@ -39,4 +47,4 @@ returns-2 c =
 
 pub add-spec : {M : Type 1} → statement M
 add-spec =
-    tie.close (tie.spec judge-add-requires enum-told returns enum-told-2 absorb-requires returns-2)
+    tie.close (tie.spec fits-requires piece-requires enum-told returns enum-told-2 absorb-requires returns-2)

@@ -8,30 +8,40 @@ use lib.ListN.{length, length-take, length-drop}
 use borrow.Author.Needs.{needs}
 use Rattle.cmac.specs.Cmac.{chainWork}
 use Rattle.cmac.proofs.Laws.{chain-work}
-use Rattle.ctr.specs.Counter.{newBlocks, pieceWork}
-use Rattle.ctr.proofs.Laws.{stream-work}
-use Rattle.answers.specs.Answer.{success, first}
+use Rattle.keystream.specs.Pieces.{newBlocks, pieceWork}
+use Rattle.keystream.proofs.Laws.{stream-work}
+use Rattle.answers.specs.Answer.{outcomeOf, success, numberAlone, first}
 use Rattle.answers.proofs.Laws.{told-refused, passed}
-use Rattle.stream.specs.State.{leavingBlocks, stateWith, added, addedWork, streamedAt, streamedWith}
+use Rattle.tail.specs.Tail.{leavingBlocks}
+use Rattle.tail.proofs.Laws.{cut}
+use Rattle.stream.specs.State.{stateWith, added, addedWork, streamedAt, streamedWith}
 use Rattle.stream.specs.Steps.{feedRows, deciphered, feedStep}
-use Rattle.stream.proofs.Laws.{refused, done, feed-admits, cut, length-streamedAt, read-back}
+use Rattle.stream.proofs.Laws.{judged-by, refused, done, feed-admits, length-streamedAt, read-back}
 use Rattle.stream.proofs.Stream.feed.Statement.{statement}
 use Rattle.stream.proofs.Stream.feed.Tie as tie
 
-none : (c : tie.At-match-keys2)
+judged : (c : tie.After-piece-to)
     → let args = c .before .before .before .before .args in
-    first (feedRows (args .self) (length (args .piece .now)) (length (args .output .now))) ≡ 0
-none c = passed (c .before .judge-feed .result) _ (c .match .keys2) (c .before .judge-feed .ensures)
+    outcomeOf (c .piece-to .result) 0 ≡ numberAlone (first (feedRows (args .self) (length (args .piece .now)) (length (args .output .now))))
+judged c = judged-by 3 _ _ (c .before .fits2 .ensures) (c .piece-to .ensures)
 
-judge-feed-requires : tie.Need-judge-feed-requires
-judge-feed-requires c κs = search needs
+none : (c : tie.At-match-keys2)
+    → let args = c .before .before .before .before .before .args in
+    first (feedRows (args .self) (length (args .piece .now)) (length (args .output .now))) ≡ 0
+none c = passed (c .before .piece-to .result) _ (c .match .keys2) (judged (c .before))
+
+fits-requires : tie.Need-fits-requires
+fits-requires c κs = search needs
+
+piece-to-requires : tie.Need-piece-to-requires
+piece-to-requires c κs = search needs
 
 enum-told : tie.Need-enum-told
 enum-told c = search needs
 
 returns : tie.Need-returns
 unfolding feedStep
-returns c = refused (c .before .before .judge-feed .result) _ _ _ _ (told-refused (c .before .before .judge-feed .result) (c .before .match .keys1)) (c .before .before .judge-feed .ensures)
+returns c = refused (c .before .before .piece-to .result) _ _ _ _ (told-refused (c .before .before .piece-to .result) (c .before .match .keys1)) (judged (c .before .before))
 
 enum-told-2 : tie.Need-enum-told-2
 enum-told-2 c = search needs
@@ -64,7 +74,7 @@ absorb-requires c κs =
 
 -- the fields that make of the state that keeps the block the one with the plaintext, and the work for as many bytes
 joined : (c : tie.After-absorb)
-    → let args = c .before .before .before .before .before .before .before .before .before .before .before .before .before .args in
+    → let args = c .before .before .before .before .before .before .before .before .before .before .before .before .before .before .args in
     let s = args .self in
     let n = length (args .piece .now) in
     let fields = c .absorb .result in
@@ -73,7 +83,7 @@ joined : (c : tie.After-absorb)
 unfolding addedWork
 joined c =
     let wrote = c .before .before .before .before .before .before in
-    let args = wrote .before .before .before .before .before .before .before .args in
+    let args = wrote .before .before .before .before .before .before .before .before .args in
     let s = args .self in
     let text = args .piece .now in
     let n = length text in
@@ -84,17 +94,17 @@ joined c =
     let long = ap length fed ∙ length-streamedAt s (s .total) text in
     let step = c .absorb .ensures in (
       step .state ∙ ap₂ (λ (k t : List ℕ). added (streamedWith s k (s .written)) t) (end .0 .block) fed,
-      step .work ∙ ap (λ (m : ℕ). chainWork (leavingBlocks s m)) long,
+      step .work ∙ ap (λ (m : ℕ). chainWork (leavingBlocks (s .total) m)) long,
     )
 
-add-t13 : tie.Need-add-t13
+add-t14 : tie.Need-add-t14
 unfolding pieceWork addedWork
-add-t13 c =
+add-t14 c =
     let absorbed = c .before .before .before .before .before in
     let wrote = absorbed .before .before .before .before .before .before in
-    let s = wrote .before .before .before .before .before .before .before .args .self in
-    let n = length (wrote .before .before .before .before .before .before .before .args .piece .now) in
-    omega (arith, wrote .stream-at .ensures .0 .work ∙ stream-work (newBlocks (s .total) n), joined absorbed .1 ∙ chain-work (leavingBlocks s n), cut (s .total + n), feed-admits _ _ _ (none (wrote .before .before .before)) .1)
+    let s = wrote .before .before .before .before .before .before .before .before .args .self in
+    let n = length (wrote .before .before .before .before .before .before .before .before .args .piece .now) in
+    omega (arith, wrote .stream-at .ensures .0 .work ∙ stream-work (newBlocks (s .total) n), joined absorbed .1 ∙ chain-work (leavingBlocks (s .total) n), cut (s .total + n), feed-admits _ _ _ (none (wrote .before .before .before)) .1)
 
 same-length : tie.Need-same-length
 same-length c = search needs
@@ -104,7 +114,7 @@ unfolding feedStep
 returns-2 c =
     let absorbed = c .before .before .before .before .before in
     let wrote = absorbed .before .before .before .before .before .before in
-    let n = length (wrote .before .before .before .before .before .before .before .args .piece .now) in
+    let n = length (wrote .before .before .before .before .before .before .before .before .args .piece .now) in
     let end = wrote .stream-at .ensures in
     done _ _ _ _ (none (wrote .before .before .before))
     (record { outcome = ap (success n) (ap₂ _+_ (end .0 .work) (joined absorbed .1)); state = joined absorbed .0; output = end .1 })
@@ -113,7 +123,8 @@ pub feed-spec : {M : Type 1} → statement M
 feed-spec =
     tie.close
     (tie.spec
-    judge-feed-requires
+    fits-requires
+    piece-to-requires
     enum-told
     returns
     enum-told-2
@@ -123,6 +134,6 @@ feed-spec =
     part-absorb-start
     part-absorb-end
     absorb-requires
-    add-t13
+    add-t14
     same-length
     returns-2)

@@ -7,25 +7,33 @@ use native.Mathlib.Omega.{arith}
 use lib.ListN.{length}
 use borrow.Author.Needs.{needs}
 use Rattle.octets.specs.Octets.{same}
-use Rattle.answers.specs.Answer.{first}
+use Rattle.answers.specs.Answer.{outcomeOf, numberAlone, first}
 use Rattle.answers.proofs.Laws.{told-refused, passed}
 use Rattle.stream.specs.State.{tagOfState}
 use Rattle.stream.specs.Steps.{finishRows}
-use Rattle.stream.proofs.Laws.{finish-admits, finish-refused, finish-done, finish-forged}
+use Rattle.stream.proofs.Laws.{judged-by, finish-admits, finish-refused, finish-done, finish-forged}
 use Rattle.stream.proofs.Stream.finish.Statement.{statement}
 use Rattle.stream.proofs.Stream.finish.Tie as tie
 
-none : (c : tie.At-match-keys2) → first (finishRows (c .before .before .before .args .self) (length (c .before .before .before .args .output .now))) ≡ 0
-none c = passed (c .before .judge-finish .result) _ (c .match .keys2) (c .before .judge-finish .ensures)
+judged : (c : tie.After-room)
+    → let args = c .before .before .before .args in
+    outcomeOf (c .room .result) 0 ≡ numberAlone (first (finishRows (args .self) (length (args .output .now))))
+judged c = judged-by 3 _ _ (c .before .fits2 .ensures) (c .room .ensures)
 
-judge-finish-requires : tie.Need-judge-finish-requires
-judge-finish-requires c κs = search needs
+none : (c : tie.At-match-keys2) → let args = c .before .before .before .before .args in first (finishRows (args .self) (length (args .output .now))) ≡ 0
+none c = passed (c .before .room .result) _ (c .match .keys2) (judged (c .before))
+
+fits-requires : tie.Need-fits-requires
+fits-requires c κs = search needs
+
+room-requires : tie.Need-room-requires
+room-requires c κs = search needs
 
 enum-told : tie.Need-enum-told
 enum-told c = search needs
 
 returns : tie.Need-returns
-returns c = finish-refused _ _ (c .before .before .judge-finish .result) (told-refused (c .before .before .judge-finish .result) (c .before .match .keys1)) (c .before .before .judge-finish .ensures)
+returns c = finish-refused _ _ (c .before .before .room .result) (told-refused (c .before .before .room .result) (c .before .match .keys1)) (judged (c .before .before))
 
 enum-told-2 : tie.Need-enum-told-2
 enum-told-2 c = search needs
@@ -43,10 +51,10 @@ ended-requires c κs = search needs
 
 -- whether the recomputed tag is the given one
 agrees : (c : tie.After-same-block)
-    → let s = c .before .before .before .before .before .before .before .before .args .self in
+    → let s = c .before .before .before .before .before .before .before .before .before .args .self in
     same (tagOfState s) (s .v) ≡ c .same-block .result
 agrees c =
-    let s = c .before .before .before .before .before .before .before .before .args .self in
+    let s = c .before .before .before .before .before .before .before .before .before .args .self in
     sym (ap (λ (t : List ℕ). same t (s .v)) (c .before .before .tag-of-state .ensures .block)) ∙ sym (c .same-block .ensures)
 
 returns-2 : tie.Need-returns-2
@@ -56,7 +64,7 @@ returns-2 c =
 
 zero-at-requires : tie.Need-zero-at-requires
 zero-at-requires c κs =
-    let start = c .before .before .before .before .before .before .before .before .before .before in
+    let start = c .before .before .before .before .before .before .before .before .before .before .before in
     omega (arith, finish-admits (start .args .self) (length (start .args .output .now)) (none (c .before .before .before .before .before .before .before)) .1)
 
 ended-requires-2 : tie.Need-ended-requires-2
@@ -74,7 +82,8 @@ pub finish-spec : {M : Type 1} → statement M
 finish-spec =
     tie.close
     (tie.spec
-    judge-finish-requires
+    fits-requires
+    room-requires
     enum-told
     returns
     enum-told-2

@@ -4,32 +4,41 @@ use mathlib.Core.Path.{_≡_, ap, _∙_}
 use lib.ListN.{length}
 use borrow.Author.Needs.{needs}
 use Rattle.octets.specs.Octets.{put}
-use Rattle.answers.specs.Answer.{success, first}
+use Rattle.answers.specs.Answer.{outcomeOf, success, numberAlone, first}
 use Rattle.answers.proofs.Laws.{told-refused, passed}
 use Rattle.stream.specs.Steps.{turnRows, turned, turnStep}
-use Rattle.stream.proofs.Laws.{refused, done, turn-admits}
+use Rattle.stream.proofs.Laws.{judged-by, refused, done, turn-admits}
 use Rattle.stream.proofs.Stream.turn.Statement.{statement}
 use Rattle.stream.proofs.Stream.turn.Tie as tie
 
-none : (c : tie.At-match-keys2) → first (turnRows (c .before .before .before .args .self) (length (c .before .before .before .args .output .now))) ≡ 0
-none c = passed (c .before .judge-turn .result) _ (c .match .keys2) (c .before .judge-turn .ensures)
+judged : (c : tie.After-room)
+    → let args = c .before .before .before .args in
+    outcomeOf (c .room .result) 0 ≡ numberAlone (first (turnRows (args .self) (length (args .output .now))))
+judged c = judged-by 1 _ _ (c .before .fits2 .ensures) (c .room .ensures)
 
-judge-turn-requires : tie.Need-judge-turn-requires
-judge-turn-requires c κs = search needs
+none : (c : tie.At-match-keys2) → let args = c .before .before .before .before .args in first (turnRows (args .self) (length (args .output .now))) ≡ 0
+none c = passed (c .before .room .result) _ (c .match .keys2) (judged (c .before))
+
+fits-requires : tie.Need-fits-requires
+fits-requires c κs = search needs
+
+room-requires : tie.Need-room-requires
+room-requires c κs = search needs
 
 enum-told : tie.Need-enum-told
 enum-told c = search needs
 
 returns : tie.Need-returns
 unfolding turnStep
-returns c = refused (c .before .before .judge-turn .result) _ _ _ _ (told-refused (c .before .before .judge-turn .result) (c .before .match .keys1)) (c .before .before .judge-turn .ensures)
+returns c = refused (c .before .before .room .result) _ _ _ _ (told-refused (c .before .before .room .result) (c .before .match .keys1)) (judged (c .before .before))
 
 enum-told-2 : tie.Need-enum-told-2
 enum-told-2 c = search needs
 
 tag-of-state-requires : tie.Need-tag-of-state-requires
 tag-of-state-requires c κs =
-    let a = turn-admits (c .before .before .before .before .args .self) (length (c .before .before .before .before .args .output .now)) (none (c .before)) in
+    let args = c .before .before .before .before .before .args in
+    let a = turn-admits (args .self) (length (args .output .now)) (none (c .before)) in
     (a .0 .width, a .0 .tailLen)
 
 store-requires : tie.Need-store-requires
@@ -41,7 +50,7 @@ same-length c = search needs
 returns-2 : tie.Need-returns-2
 unfolding turnStep
 returns-2 c =
-    let args = c .before .before .before .before .before .before .before .before .before .before .args in
+    let args = c .before .before .before .before .before .before .before .before .before .before .before .args in
     let tag = c .before .before .before .before .before .tag-of-state .ensures in
     done _ _ _ _ (none (c .before .before .before .before .before .before .before))
     (record {
@@ -54,7 +63,8 @@ pub turn-spec : {M : Type 1} → statement M
 turn-spec =
     tie.close
     (tie.spec
-    judge-turn-requires
+    fits-requires
+    room-requires
     enum-told
     returns
     enum-told-2

@@ -3,31 +3,40 @@
 use mathlib.Core.Path.{_≡_, ap}
 use mathlib.Core.List.{List}
 use Prim.Native.Nat.{ℕ, _+_}
+use native.Mathlib.Nat.{zero-add}
 use native.Mathlib.Omega.{arith}
 use lib.ListN.{length}
 use borrow.Author.Needs.{needs}
-use Rattle.answers.specs.Answer.{success, first}
+use Rattle.answers.specs.Answer.{outcomeOf, success, numberAlone, first}
 use Rattle.answers.proofs.Laws.{told-refused, passed}
 use Rattle.stream.specs.State.{streamedWith}
 use Rattle.stream.specs.Steps.{writeRows, writeStep}
-use Rattle.stream.proofs.Laws.{refused, done, write-admits}
+use Rattle.stream.proofs.Laws.{judged-by, refused, done, write-admits}
 use Rattle.stream.proofs.Stream.write.Statement.{statement}
 use Rattle.stream.proofs.Stream.write.Tie as tie
 
-none : (c : tie.At-match-keys2)
+judged : (c : tie.After-piece-to)
     → let args = c .before .before .before .before .args in
-    first (writeRows (args .self) (length (args .piece .now)) (length (args .output .now))) ≡ 0
-none c = passed (c .before .judge-write .result) _ (c .match .keys2) (c .before .judge-write .ensures)
+    outcomeOf (c .piece-to .result) 0 ≡ numberAlone (first (writeRows (args .self) (length (args .piece .now)) (length (args .output .now))))
+judged c = simp zero-add at (judged-by 2 _ _ (c .before .fits2 .ensures) (c .piece-to .ensures))
 
-judge-write-requires : tie.Need-judge-write-requires
-judge-write-requires c κs = search needs
+none : (c : tie.At-match-keys2)
+    → let args = c .before .before .before .before .before .args in
+    first (writeRows (args .self) (length (args .piece .now)) (length (args .output .now))) ≡ 0
+none c = passed (c .before .piece-to .result) _ (c .match .keys2) (judged (c .before))
+
+fits-requires : tie.Need-fits-requires
+fits-requires c κs = search needs
+
+piece-to-requires : tie.Need-piece-to-requires
+piece-to-requires c κs = search needs
 
 enum-told : tie.Need-enum-told
 enum-told c = search needs
 
 returns : tie.Need-returns
 unfolding writeStep
-returns c = refused (c .before .before .judge-write .result) _ _ _ _ (told-refused (c .before .before .judge-write .result) (c .before .match .keys1)) (c .before .before .judge-write .ensures)
+returns c = refused (c .before .before .piece-to .result) _ _ _ _ (told-refused (c .before .before .piece-to .result) (c .before .match .keys1)) (judged (c .before .before))
 
 enum-told-2 : tie.Need-enum-told-2
 enum-told-2 c = search needs
@@ -48,8 +57,9 @@ same-length c = search needs
 returns-2 : tie.Need-returns-2
 unfolding writeStep
 returns-2 c =
-    let s = c .before .before .before .before .before .before .before .before .before .before .before .args .self in
-    let n = length (c .before .before .before .before .before .before .before .before .before .before .before .args .piece .now) in
+    let args = c .before .before .before .before .before .before .before .before .before .before .before .before .args in
+    let s = args .self in
+    let n = length (args .piece .now) in
     let wrote = c .before .before .before .before .stream-at .ensures in
     done _ _ _ _ (none (c .before .before .before .before .before .before .before))
     (record {
@@ -62,7 +72,8 @@ pub write-spec : {M : Type 1} → statement M
 write-spec =
     tie.close
     (tie.spec
-    judge-write-requires
+    fits-requires
+    piece-to-requires
     enum-told
     returns
     enum-told-2

@@ -9,7 +9,7 @@ use Rattle.aes.specs.Cipher.{cipher}
 use Rattle.cmac.specs.declared.Subkeys.{Subkeys}
 use Rattle.s2v.specs.S2v.{tailLength, tagFrom, tagFromWork}
 use Rattle.stream.specs.State.{tagOfState, tagOfStateWork}
-use Rattle.stream.proofs.Laws.{cut}
+use Rattle.tail.proofs.Laws.{cut}
 use Rattle.stream.proofs.admitted.tag_of_state.Statement.{statement}
 use Rattle.stream.proofs.admitted.tag_of_state.Tie as tie
 

@@ -9,7 +9,8 @@ use borrow.Author.Needs.{needs}
 use borrow.Author.Tests.{eqb-true, not-true, not-false, eq-eqb, ne-eqb, lt-ltb, le-ltb}
 use Rattle.aes.specs.Aes.{isWidth}
 use Rattle.s2v.specs.S2v.{tailLength}
-use Rattle.stream.specs.State.{allZero, writtenLimit, keptFits, fits}
+use Rattle.octets.specs.Octets.{allZero}
+use Rattle.stream.specs.State.{writtenLimit, keptFits, fits}
 use Rattle.stream.proofs.judge.fits.Statement.{statement}
 use Rattle.stream.proofs.judge.fits.Tie as tie
 

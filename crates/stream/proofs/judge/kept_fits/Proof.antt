@@ -7,7 +7,8 @@ use lib.Dec.{eqb}
 use lib.ListN.{length}
 use borrow.Author.Needs.{needs}
 use borrow.Author.Tests.{eq-eqb, ne-eqb}
-use Rattle.stream.specs.State.{allZero, keptFits}
+use Rattle.octets.specs.Octets.{allZero}
+use Rattle.stream.specs.State.{keptFits}
 use Rattle.stream.proofs.judge.kept_fits.Statement.{statement}
 use Rattle.stream.proofs.judge.kept_fits.Tie as tie
 

@@ -1,0 +1,81 @@
+// The counter as RFC 5297 has it: Q from V, and Q + i.
+ghost use mathlib.Core.Path.{_≡_};
+ghost use mathlib.Core.List.{[], _∷_, _++_};
+ghost use Rattle.octets.specs.Octets.{entries};
+ghost use Rattle.counter.specs.Counter.{number, bytesOfNumber, clear, plus};
+use octets::Block;
+
+// Q from V: the top bits of bytes 8 and 12 cleared.
+pub fn clear(v: Block) -> Block
+    ensures { λ r. ⌜ r ≡ clear v ⌝ }
+{
+    let mut q = v;
+    q[8] = v[8] % 128;
+    q[12] = v[12] % 128;
+    q
+}
+
+// The number of eight bytes, the first the highest.
+fn join(a: u8, b: u8, c: u8, d: u8, e: u8, f: u8, g: u8, h: u8) -> u64
+    ensures { λ r. ⌜ r ≡ number (a ∷ b ∷ c ∷ d ∷ e ∷ f ∷ g ∷ h ∷ []) ⌝ }
+{
+    a as u64 * 72057594037927936
+        + b as u64 * 281474976710656
+        + c as u64 * 1099511627776
+        + d as u64 * 4294967296
+        + e as u64 * 16777216
+        + f as u64 * 65536
+        + g as u64 * 256
+        + h as u64
+}
+
+// The number of the first half of a block.
+fn high(q: Block) -> u64
+    ensures { λ r. ⌜ r ≡ number (entries 8 0 q) ⌝ }
+{
+    join(q[0], q[1], q[2], q[3], q[4], q[5], q[6], q[7])
+}
+
+// The number of the second half of a block.
+fn low(q: Block) -> u64
+    ensures { λ r. ⌜ r ≡ number (entries 8 8 q) ⌝ }
+{
+    join(q[8], q[9], q[10], q[11], q[12], q[13], q[14], q[15])
+}
+
+// The block of two halves.
+fn split(hi: u64, lo: u64) -> Block
+    ensures { λ r. ⌜ r ≡ bytesOfNumber 8 hi ++ bytesOfNumber 8 lo ⌝ }
+{
+    [
+        (hi / 72057594037927936 % 256) as u8,
+        (hi / 281474976710656 % 256) as u8,
+        (hi / 1099511627776 % 256) as u8,
+        (hi / 4294967296 % 256) as u8,
+        (hi / 16777216 % 256) as u8,
+        (hi / 65536 % 256) as u8,
+        (hi / 256 % 256) as u8,
+        (hi % 256) as u8,
+        (lo / 72057594037927936 % 256) as u8,
+        (lo / 281474976710656 % 256) as u8,
+        (lo / 1099511627776 % 256) as u8,
+        (lo / 4294967296 % 256) as u8,
+        (lo / 16777216 % 256) as u8,
+        (lo / 65536 % 256) as u8,
+        (lo / 256 % 256) as u8,
+        (lo % 256) as u8,
+    ]
+}
+
+// Q + i modulo 2^128: the carry out of the low half goes into the high one.
+pub fn plus(q: Block, i: u64) -> Block
+    ensures { λ r. ⌜ r ≡ plus q i ⌝ }
+{
+    let hi = high(q);
+    let lo = low(q);
+    let sum = std::num::wrapping_add_u64(lo, i);
+    if sum < lo {
+        return split(std::num::wrapping_add_u64(hi, 1), sum);
+    }
+    split(hi, sum)
+}

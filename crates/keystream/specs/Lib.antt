@@ -1,0 +1,2 @@
+pub mod KeyStream
+pub mod Pieces

@@ -1,0 +1,111 @@
+// The key stream under V, RFC 5297, xored into parts of lent slices.
+ghost use mathlib.Core.Path.{_≡_};
+ghost use Prim.Native.Nat.{_+_, _*_, _^_, _≤_};
+ghost use lib.ListN.{length, take};
+ghost use Rattle.octets.specs.Octets.{put};
+ghost use Rattle.aes.specs.Cipher.{cipher};
+ghost use Rattle.aes.specs.Engine.{Ready};
+ghost use Rattle.aes.specs.Work.{Reports};
+ghost use Rattle.counter.specs.Counter.{clear, plus};
+ghost use Rattle.keystream.specs.KeyStream.{streamWork, xorStream};
+ghost use Rattle.keystream.specs.Pieces.{noBlock, pieceWork, xorPiece, keptAfter};
+use aes::Counted;
+use aes::Engine;
+use aes::RoundKeys;
+use octets::Block;
+
+// Writes src, of at most 16 bytes, xored with block i of the key stream, at place at of a slice; gives the block.
+fn xor_with_block(
+    engine: &Engine,
+    width: usize,
+    keys: &RoundKeys,
+    v: Block,
+    i: u64,
+    src: &[u8],
+    dst: &mut [u8],
+    at: usize,
+) -> Counted
+    requires { ⌜ Ready (now engine) × (width ≤ 32) × (length (now src) ≤ 16) × (at + length (now src) ≤ length (now dst)) ⌝ }
+    ensures block { λ r. ⌜ Reports (cipher width (now (keys .entry)) (plus (clear v) i)) 1 r ⌝ }
+    ensures text { λ _. ⌜ now (dst .exit) ≡ put (now (dst .entry)) at (xorStream (cipher width (now (keys .entry))) v (16 * i) (now (src .entry))) ⌝ }
+{
+    let made = aes::encrypt(engine, width, keys, counter::plus(counter::clear(v), i));
+    let block = made.block;
+    octets::xor_at(dst, at, src, &block);
+    made
+}
+
+// Writes the first n blocks of src, xored with the key stream from block i on, at place at of a slice; gives the work.
+fn xor_blocks(
+    engine: &Engine,
+    width: usize,
+    keys: &RoundKeys,
+    v: Block,
+    i: usize,
+    n: usize,
+    src: &[u8],
+    dst: &mut [u8],
+    at: usize,
+) -> usize
+    requires { ⌜ Ready (now engine) × (width ≤ 32) × (i ≤ 2 ^ 61) × (16 * n ≤ length (now src)) × (at + 16 * n ≤ length (now dst)) ⌝ }
+    ensures work { λ r. ⌜ r ≡ streamWork n ⌝ }
+    ensures text { λ _. ⌜ now (dst .exit) ≡ put (now (dst .entry)) at (xorStream (cipher width (now (keys .entry))) v (16 * i) (take (16 * n) (now (src .entry)))) ⌝ }
+{
+    let mut work = 0;
+    let mut j = 0;
+    while j < n {
+        let made = xor_with_block(
+            engine,
+            width,
+            keys,
+            v,
+            (i + j) as u64,
+            &src[16 * j..16 * j + 16],
+            dst,
+            at + 16 * j,
+        );
+        work = work + made.work;
+        j += 1;
+    }
+    work
+}
+
+// Writes src, xored with the key stream from block i on, at place at of a slice: whole blocks, then the short end. Gives the block that the end begins, zeros where it is whole, and the work.
+pub fn xor_from(
+    engine: &Engine,
+    width: usize,
+    keys: &RoundKeys,
+    v: Block,
+    i: usize,
+    src: &[u8],
+    dst: &mut [u8],
+    at: usize,
+) -> Counted
+    requires { ⌜ Ready (now engine) × (width ≤ 32) × (i ≤ 2 ^ 61) × (at + length (now src) ≤ length (now dst)) ⌝ }
+    ensures kept { λ r. ⌜ Reports (keptAfter (cipher width (now (keys .entry))) v noBlock (16 * i) (length (now (src .entry)))) (pieceWork (16 * i) (length (now (src .entry)))) r ⌝ }
+    ensures text { λ _. ⌜ now (dst .exit) ≡ put (now (dst .entry)) at (xorPiece (cipher width (now (keys .entry))) v noBlock (16 * i) (now (src .entry))) ⌝ }
+{
+    let n = src.len() / 16;
+    let work = xor_blocks(engine, width, keys, v, i, n, src, dst, at);
+    if src.len() % 16 == 0 {
+        return Counted {
+            block: [0u8; 16],
+            work,
+        };
+    }
+    let end = xor_with_block(
+        engine,
+        width,
+        keys,
+        v,
+        (i + n) as u64,
+        &src[16 * n..],
+        dst,
+        at + 16 * n,
+    );
+    let block = end.block;
+    Counted {
+        block,
+        work: work + end.work,
+    }
+}
