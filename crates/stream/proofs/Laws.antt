@@ -25,7 +25,7 @@ use Rattle.answers.specs.declared.Refusal.the-variants.{Forged}
 use Rattle.answers.specs.Answer.{Outcome, Row, row, first, outcomeOf, success, numberAlone, forged}
 use Rattle.answers.proofs.Laws.{lacks, outcome-number, outcome-work, not-due, first-not, first-pass, first-stop, first-append}
 use Rattle.tail.specs.declared.Absorbed.{Absorbed}
-use Rattle.tail.specs.Tail.{Leaves}
+use Rattle.tail.specs.Tail.{AfterPiece}
 use Rattle.whole.specs.Calls.{limit}
 use Rattle.head.specs.declared.Head.{Head}
 use Rattle.head.specs.declared.Made.{Made}
@@ -127,7 +127,7 @@ module _ (s : Stream) where
 -- ---- what is done once a call is admitted
 
 -- with the fields that a piece leaves, a state is the one with the piece
-pub absorbed : (s : Stream) (text : List ℕ) {left : Absorbed} → Leaves (cipher (s .width) (s .«mac_keys»)) (s .chain) (s .total) (s .tail) text left → Absorbs s text left
+pub absorbed : (s : Stream) (text : List ℕ) {left : Absorbed} → AfterPiece (cipher (s .width) (s .«mac_keys»)) (s .chain) (s .total) (s .tail) text left → Absorbs s text left
 unfolding added addedWork
 absorbed s text l = record { state = simp (l .chain .block, l .total, l .tailLen, l .tail); work = l .chain .work }
 

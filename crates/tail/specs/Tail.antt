@@ -23,7 +23,7 @@ abbrev pub leavingBlocks : ℕ → ℕ → ℕ
 leavingBlocks total n = passedBlocks (total + n) - passedBlocks total
 
 -- what a piece leaves where `old` is the tail of so many bytes before it, and c the chain over their other blocks
-pub record Leaves (E : List ℕ → List ℕ) (c : List ℕ) (before : ℕ) (old piece : List ℕ) (left : Absorbed) : Type 0 where
+pub record AfterPiece (E : List ℕ → List ℕ) (c : List ℕ) (before : ℕ) (old piece : List ℕ) (left : Absorbed) : Type 0 where
   pub chain : Reports (chain E c (take (tailLength before) old ++ piece) (leavingBlocks before (length piece))) (chainWork (leavingBlocks before (length piece))) (left .chain)
   pub total : left .total ≡ before + length piece
   pub tailLen : left .«tail_len» ≡ tailLength (before + length piece)

@@ -9,7 +9,7 @@ ghost use Rattle.aes.specs.Engine.{Ready};
 ghost use Rattle.aes.specs.Work.{Reports};
 ghost use Rattle.cmac.specs.Cmac.{chain, chainWork};
 ghost use Rattle.s2v.specs.S2v.{tailLength};
-ghost use Rattle.tail.specs.Tail.{tailOf, Leaves};
+ghost use Rattle.tail.specs.Tail.{tailOf, AfterPiece};
 use aes::Counted;
 use aes::Engine;
 use aes::RoundKeys;
@@ -106,7 +106,7 @@ pub fn absorb(
     piece: &[u8],
 ) -> Absorbed
     requires { ⌜ (width ≤ 32) × (used ≡ tailLength total) × (total + length (now piece) < 2 ^ 64) ⌝ }
-    ensures { λ r. ⌜ Leaves (cipher width (now (keys .entry))) c total tail (now (piece .entry)) r ⌝ }
+    ensures { λ r. ⌜ AfterPiece (cipher width (now (keys .entry))) c total tail (now (piece .entry)) r ⌝ }
 {
     let end = total + piece.len();
     let tail_len = s2v::tail_len(end);
