@@ -9,7 +9,7 @@ use lib.Dec.{eqb}
 use lib.ListN.{length, take, drop, length-drop}
 use lib.Seq.{take-all, length-take-le}
 use Rattle.octets.specs.Octets.{xors, put}
-use Rattle.octets.proofs.Strings.{length-xors, put-put}
+use Rattle.octets.proofs.Strings.{length-xors, put-put, part-rest}
 use Rattle.keystream.specs.KeyStream.{keyStreamWork, xorStream}
 use Rattle.keystream.specs.Pieces.{noBlock, begunBlock, leftOver, pieceWork, xorPiece, keptAfter}
 use Rattle.keystream.proofs.Laws.{pieceWork-within, pieceWork-beyond, pieceWork-fresh, xorPiece-within, keptAfter-within, xorPiece-beyond, keptAfter-beyond, xorPiece-fresh, keptAfter-fresh}
@@ -46,7 +46,7 @@ module _ (E : List ℕ → List ℕ) (sized : (b : List ℕ) → length (E b) �
     fromNew = take (length text - n) (drop n text)
 
     from-new : fromNew ≡ drop n text
-    from-new = take-all (length text - n) (drop n text) (omega (arith, length-drop n text))
+    from-new = part-rest text n
 
     used-up : n ≡ leftOver place
     used-up = omega (arith, few, more)

@@ -8,7 +8,7 @@ use native.Mathlib.Omega.{arith}
 use lib.ListN.{length, take, drop, length-drop, take-append-drop}
 use lib.Seq.{take-all, take-add, length-take-le}
 use Rattle.octets.specs.Octets.{xors, put}
-use Rattle.octets.proofs.Strings.{put-put, part-to}
+use Rattle.octets.proofs.Strings.{put-put, part-to, part-rest}
 use Rattle.counter.specs.Counter.{clear, plus}
 use Rattle.keystream.specs.KeyStream.{xorStream}
 use Rattle.keystream.proofs.Laws.{length-xorStream, xorStream-append, xorStream-block}
@@ -17,8 +17,7 @@ use Rattle.keystream.proofs.Laws.{length-xorStream, xorStream-append, x
 
 -- a front and `&l[n..]`
 front-rest : (n : ℕ) (l : List ℕ) → take n l ++ take (length l - n) (drop n l) ≡ l
-front-rest n l =
-    ap (λ (t : List ℕ). take n l ++ t) (take-all (length l - n) (drop n l) (omega (arith, length-drop n l))) ∙ take-append-drop n l
+front-rest n l = ap (λ (t : List ℕ). take n l ++ t) (part-rest l n) ∙ take-append-drop n l
 
 -- j blocks and `&l[16 * j..16 * j + 16]`
 front-block : (j : ℕ) (l : List ℕ) → take (16 * j) l ++ take (16 * j + 16 - 16 * j) (drop (16 * j) l) ≡ take (16 * (j + 1)) l
