@@ -2,7 +2,7 @@
 ghost use mathlib.Core.Path.{_≡_};
 ghost use mathlib.Core.Bool.{not};
 ghost use mathlib.Core.List.{[], _∷_};
-ghost use Prim.Native.Nat.{_+_, _≤_};
+ghost use Prim.Native.Nat.{_+_};
 ghost use lib.Dec.{ltb};
 ghost use Rattle.answers.specs.Answer.{outcomeOf, row, first, numberAlone};
 use answers::Answer;
@@ -49,16 +49,13 @@ pub fn room(fits: bool, need: usize, output: usize) -> Answer
 
 // The refusals of a call that takes a piece of n bytes and writes as many at place at of an output.
 pub fn piece_to(fits: bool, most: usize, used: usize, n: usize, at: usize, output: usize) -> Answer
-    requires { ⌜ at ≤ used ⌝ }
     ensures { λ r. ⌜ outcomeOf r 0 ≡ numberAlone (first (row 9 (not fits) ∷ row 4 (ltb most (used + n)) ∷ row 6 (ltb output (at + n)) ∷ [])) ⌝ }
 {
-    if !fits {
-        return Answer::Refused(Refusal::State);
+    let answer = piece(fits, most, used, n);
+    if let Answer::Refused(_) = answer {
+        return answer;
     }
-    if passes(most, used, n) {
-        return Answer::Refused(Refusal::TooLong);
-    }
-    if output < at + n {
+    if passes(output, at, n) {
         return Answer::Refused(Refusal::OutputShort);
     }
     Answer::Ok(0)

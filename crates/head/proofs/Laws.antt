@@ -3,12 +3,13 @@
 use mathlib.Core.Path.{_≡_, refl, ap, ap₂, sym, subst, _∙_}
 use mathlib.Core.Bool.{true, not, and-eq-true-iff}
 use mathlib.Core.List.{List, [], _∷_, _++_}
-use Prim.Native.Nat.{ℕ, _+_, _/_, _≤_}
+use Prim.Native.Nat.{ℕ, _+_, _-_, _/_, _≤_, _<_}
+use native.Mathlib.Decide.{decLt}
 use native.Mathlib.Nat.{zero-add}
 use native.Mathlib.Omega.{arith}
 use lib.Dec.{eqb, ltb}
 use lib.ListN.{length, length-append}
-use borrow.Author.Tests.{eqb-true, eq-eqb, ne-eqb, ltb-false, not-true, not-false}
+use borrow.Author.Tests.{eqb-true, eq-eqb, ne-eqb, lt-ltb, le-ltb, ltb-false, not-true, not-false}
 use Rattle.aes.specs.Aes.{isWidth}
 use Rattle.aes.specs.Cipher.{cipher}
 use Rattle.aes.specs.KeyExpansion.{roundKeys}
@@ -28,6 +29,14 @@ use Rattle.whole.proofs.Lengths.{absorb-lengths, header-lengths}
 use Rattle.head.specs.declared.Head.{Head}
 use Rattle.head.specs.declared.Made.{Made}
 use Rattle.head.specs.Head.{zeroHead, headOf, headOfWork, extended, extendedWork, fitsHead, restRows, MakeResult, DidMake, madeHead, settleHead}
+
+-- a sum past a limit, told without the sum
+pub sum-passes : (most total n : ℕ) → total ≤ most → ltb (most - total) n ≡ ltb most (total + n)
+sum-passes most total n h = go (decLt (most - total) n)
+  where
+    go : Dec (most - total < n) → ltb (most - total) n ≡ ltb most (total + n)
+    go (yes k) = lt-ltb (most - total) n k ∙ sym (lt-ltb most (total + n) (omega arith))
+    go (no k) = le-ltb (most - total) n (omega arith) ∙ sym (le-ltb most (total + n) (omega arith))
 
 -- ---- the heads that the code puts together
 

@@ -7,7 +7,7 @@ ghost use Rattle.octets.specs.Octets.{put};
 ghost use Rattle.aes.specs.Engine.{Ready};
 ghost use Rattle.header.specs.Header.{total, strings};
 ghost use Rattle.whole.specs.Calls.{isKeyLength};
-ghost use Rattle.whole.specs.Ring.{PerformsRing, slotKey, trySlots};
+ghost use Rattle.whole.specs.Ring.{PerformsRing, slotKey, trySlots, givenSlot};
 ghost use Rattle.whole.specs.Siv.{opened, genuine, genuineWork};
 use admission::TAG_LEN;
 use aes::Engine;
@@ -76,6 +76,16 @@ fn first_slot(
     Found { slot, work }
 }
 
+// The slot that is given: where the search ended, or slot 0 behind the last.
+fn given_slot(found: Found, slots: usize) -> usize
+    ensures { λ r. ⌜ r ≡ givenSlot found slots ⌝ }
+{
+    if found.slot < slots {
+        return found.slot;
+    }
+    0
+}
+
 // Opens a sealed string under the first key of a ring that opens it: the ring is one to four keys of key_len bytes, tried from slot 0.
 pub fn open_ring(
     key_len: usize,
@@ -107,18 +117,10 @@ pub fn open_ring(
     }
     let slots = ring.len() / key_len;
     let found = first_slot(key_len, slots, ring, header, lens, input, scratch);
-    let slot = found.slot;
-    let answer = siv::admitted::deliver(slot < slots, y - TAG_LEN, output, scratch);
-    if slot < slots {
-        return RingAnswer {
-            answer,
-            slot,
-            work: found.work,
-        };
-    }
+    let slot = given_slot(found, slots);
     RingAnswer {
-        answer,
-        slot: 0,
+        answer: siv::admitted::deliver(found.slot < slots, y - TAG_LEN, output, scratch),
+        slot,
         work: found.work,
     }
 }

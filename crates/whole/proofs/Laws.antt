@@ -3,14 +3,14 @@
 use mathlib.Core.Path.{_≡_, refl, ap, ap₂, sym, subst, _∙_}
 use mathlib.Core.Bool.{Bool, true, false, not, cond, _||_}
 use mathlib.Core.List.{List, [], _∷_, _++_}
-use Prim.Native.Nat.{ℕ, _+_, _-_, _/_, _≤_, _<_}
-use native.Mathlib.Decide.{decLt, ℕ-discrete}
+use Prim.Native.Nat.{ℕ, _+_, _-_, _/_, _≤_}
+use native.Mathlib.Decide.{ℕ-discrete}
 use native.Mathlib.Nat.{zero-add}
 use native.Mathlib.Omega.{arith}
 use lib.Dec.{eqb, ltb}
 use lib.ListN.{length, take, drop, replicate, length-drop, length-replicate}
 use lib.Seq.{length-take-le, drop-at, drop-drop}
-use borrow.Author.Tests.{eqb-true, ne-eqb, lt-ltb, le-ltb, ltb-false, not-false}
+use borrow.Author.Tests.{eqb-true, ne-eqb, ltb-false, not-false}
 use Rattle.octets.specs.Octets.{put}
 use Rattle.octets.proofs.Strings.{take-put, put-put}
 use Rattle.aes.specs.Aes.{isWidth, aes}
@@ -47,16 +47,6 @@ halves n e = go (eqb n 32) (eqb n 48) (eqb-true n 32) (eqb-true n 48) (eqb-true 
     go true b f g h t = at 32 (record { half = refl; even = refl; most = omega arith }) (f refl)
     go false true f g h t = at 48 (record { half = refl; even = refl; most = omega arith }) (g refl)
     go false false f g h t = at 64 (record { half = refl; even = refl; most = omega arith }) (h t)
-
--- ---- sums
-
--- a sum past a limit, told without the sum
-pub sum-passes : (most total n : ℕ) → total ≤ most → ltb (most - total) n ≡ ltb most (total + n)
-sum-passes most total n h = go (decLt (most - total) n)
-  where
-    go : Dec (most - total < n) → ltb (most - total) n ≡ ltb most (total + n)
-    go (yes k) = lt-ltb (most - total) n k ∙ sym (lt-ltb most (total + n) (omega arith))
-    go (no k) = le-ltb (most - total) n (omega arith) ∙ sym (le-ltb most (total + n) (omega arith))
 
 -- ---- keys under the cipher
 

@@ -2,7 +2,6 @@
 -- Assumes nothing.
 use mathlib.Core.Path.{sym, _∙_}
 use borrow.Author.Needs.{needs}
-use borrow.Author.Tests.{not-true, not-false}
 use Rattle.bounds.proofs.piece.Statement.{statement}
 use Rattle.bounds.proofs.piece.Tie as tie
 

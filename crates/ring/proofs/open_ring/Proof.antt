@@ -1,13 +1,12 @@
 -- `ring::open_ring` meets its contract.
 -- Assumes nothing.
-use mathlib.Core.Path.{_≡_, refl, ap, sym}
-use mathlib.Core.Bool.{Bool, true, cond}
+use mathlib.Core.Path.{_≡_, refl}
+use mathlib.Core.Bool.{true, cond}
 use Prim.Native.Nat.{ℕ, _-_}
 use native.Mathlib.Omega.{arith}
 use lib.Dec.{ltb}
 use lib.ListN.{length}
 use borrow.Author.Needs.{needs}
-use borrow.Author.Tests.{lt-ltb, le-ltb}
 use Rattle.answers.specs.Answer.{outcomeOf, success, forged}
 use Rattle.answers.proofs.Laws.{told-refused, passed}
 use Rattle.whole.specs.Calls.{isKeyLength}
@@ -62,17 +61,20 @@ first-slot-requires c κs =
     let a = admits (c .before .before) in
     (whole (c .before .before) .0, whole (c .before .before) .1 .whole, whole (c .before .before) .1 .most, omega (arith, a .listed), a .few, a .tagged, omega (arith, a .scratchy))
 
+given-slot-requires : tie.Need-given-slot-requires
+given-slot-requires c κs = search needs
+
 sub-deliver : tie.Need-sub-deliver
-sub-deliver c = admits (c .before .before .before .before .before) .tagged
+sub-deliver c = admits (c .before .before .before .before .before .before .before) .tagged
 
 deliver-requires : tie.Need-deliver-requires
 deliver-requires c κs =
-    let a = admits (c .before .before .before .before .before .before .before) in
-    (a .roomy, omega (arith, a .scratchy, c .before .before .before .before .first-slot .kept .1 .1 .1 .1 .1 .1 .0))
+    let a = admits (c .before .before .before .before .before .before .before .before .before) in
+    (a .roomy, omega (arith, a .scratchy, c .before .before .before .before .before .before .first-slot .kept .1 .1 .1 .1 .1 .1 .0))
 
 -- the answer is that of a slot that was found, or of none
 told : (c : tie.After-deliver)
-    → let searched = c .before .before .before .before .before in
+    → let searched = c .before .before .before .before .before .before .before in
     let a = searched .before .before .before .before .before .before .before .before .before .before .before .args in
     (w : ℕ) → outcomeOf (c .deliver .result) w ≡ cond (ltb (searched .first-slot .result .slot) (slotCount (a .key-len) (length (a .ring .now)))) (success (length (a .input .now) - 16) w) (forged w)
 told c = c .deliver .ensures .0
@@ -85,25 +87,11 @@ same-length-2 c = search needs
 
 returns-2 : tie.Need-returns-2
 returns-2 c =
-    let done = c .before .before .before .before .before in
-    let searched = done .before .before .before .before .before in
+    let done = c .before .before .before .before in
+    let given = done .before .before .before .before in
+    let searched = given .before .before .before in
     let search = searched .first-slot .ensures in
-    ring-delivered _ _ _ _ _ _ _ (judged (searched .before .before .before)) _ (search .0) _ _ _ _ (sym (ap (λ (t : Bool). cond t (searched .first-slot .result .slot) 0) (lt-ltb _ _ (c .if1 .taken)))) refl
-    (search .1 .0) (told done) (done .deliver .ensures .1 .0) (search .1 .1) (done .deliver .ensures .1 .1)
-
-same-length-3 : tie.Need-same-length-3
-same-length-3 c = search needs
-
-same-length-4 : tie.Need-same-length-4
-same-length-4 c = search needs
-
-returns-3 : tie.Need-returns-3
-returns-3 c =
-    let done = c .before .before .before .before .before in
-    let searched = done .before .before .before .before .before in
-    let search = searched .first-slot .ensures in
-    ring-delivered _ _ _ _ _ _ _ (judged (searched .before .before .before)) _ (search .0) _ _ _ _ (sym (ap (λ (t : Bool). cond t (searched .first-slot .result .slot) 0) (le-ltb _ _ (c .if1 .left)))) refl
-    (search .1 .0) (told done) (done .deliver .ensures .1 .0) (search .1 .1) (done .deliver .ensures .1 .1)
+    ring-delivered _ _ _ _ _ _ _ (judged (searched .before .before .before)) _ (search .0) _ _ _ _ (given .given-slot .ensures) refl (search .1 .0) (told done) (done .deliver .ensures .1 .0) (search .1 .1) (done .deliver .ensures .1 .1)
 
 pub open-ring-spec : {M : Type 1} → statement M
 open-ring-spec =
@@ -115,11 +103,9 @@ open-ring-spec =
     enum-told-2
     div-slots
     first-slot-requires
+    given-slot-requires
     sub-deliver
     deliver-requires
     same-length
     same-length-2
-    returns-2
-    same-length-3
-    same-length-4
-    returns-3)
+    returns-2)

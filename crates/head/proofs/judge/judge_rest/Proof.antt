@@ -8,9 +8,8 @@ use lib.Dec.{ltb}
 use lib.ListN.{length}
 use borrow.Author.Needs.{needs}
 use borrow.Author.Tests.{lt-ltb, le-ltb, not-false}
-use Rattle.whole.proofs.Laws.{sum-passes}
 use Rattle.head.specs.Head.{fitsHead}
-use Rattle.head.proofs.Laws.{fit}
+use Rattle.head.proofs.Laws.{sum-passes, fit}
 use Rattle.head.proofs.judge.judge_rest.Statement.{statement}
 use Rattle.head.proofs.judge.judge_rest.Tie as tie
 
