@@ -147,7 +147,7 @@ module _ (key bytes lens input output scratch : List ℕ) where
   seal-refused answer k e =
       let number = sealNumber key bytes lens input output scratch in
       let off : eqb number 0 ≡ false = ne-eqb number 0 (λ z. k (ap (λ (o : Outcome). o .number) e ∙ z)) in
-      record { outcome = simp off e; output = simp off; scratch = simp off }
+      record { outcome = simp off e; output = simp off refl; scratch = simp off refl }
 
   pub seal-done : (w : ℕ) (output′ scratch′ : List ℕ) → sealNumber key bytes lens input output scratch ≡ 0 → w ≡ sealedWork key (strings bytes lens) input
       → output′ ≡ put output 0 (sealed key (strings bytes lens) input) → scratch′ ≡ put scratch 0 (replicate (scratchNeed (length input)) 0)
@@ -261,7 +261,7 @@ module _ (key bytes lens input output scratch : List ℕ) where
       let due : openJudged ≡ 0 → ⊥ = λ z. k (ap (λ (o : Outcome). o .number) e ∙ z) in
       let off : eqb number 0 ≡ false = ne-eqb number 0 (λ z. due (sym (number-due due) ∙ z)) in
       let off8 : eqb number 8 ≡ false = ne-eqb number 8 (λ z. not-eight (sym (number-due due) ∙ z)) in
-      record { outcome = simp (off, off8) (e ∙ ap numberAlone (sym (number-due due))); output = simp (off, off8); scratch = simp (off, off8) }
+      record { outcome = simp (off, off8) (e ∙ ap numberAlone (sym (number-due due))); output = simp (off, off8) refl; scratch = simp (off, off8) refl }
 
   -- a refusal of the judgement is the call's number
   pub open-due : (openJudged ≡ 0 → ⊥) → openCall key bytes lens input output scratch .outcome .number ≡ openJudged
