@@ -2,3 +2,4 @@ pub mod Bits
 pub mod Strings
 pub mod Tests
 mod Zeros
+mod Joined

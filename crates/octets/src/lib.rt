@@ -1,5 +1,6 @@
 // Byte strings: blocks of 16 bytes by value, and parts of lent slices.
 ghost use mathlib.Core.Path.{_≡_};
+ghost use mathlib.Core.List.{_++_};
 ghost use mathlib.Core.Bool.{_&&_, _||_};
 ghost use Prim.Native.Nat.{_+_, _≤_};
 ghost use lib.Dec.{eqb, ltb};
@@ -19,6 +20,25 @@ pub fn copy_at(dst: &mut [u8], at: usize, src: &[u8])
         dst[at + i] = src[i];
         i += 1;
     }
+}
+
+// Copies n bytes from a place of two joined strings to the front of a slice.
+pub fn copy_joined(dst: &mut [u8], a: &[u8], b: &[u8], at: usize, n: usize)
+    requires { ⌜ (n ≤ length (now dst)) × (at + n ≤ length (now a) + length (now b)) ⌝ }
+    ensures { λ _. ⌜ now (dst .exit) ≡ put (now (dst .entry)) 0 (part (now (a .entry) ++ now (b .entry)) at n) ⌝ }
+{
+    if a.len() <= at {
+        let from = at - a.len();
+        copy_at(dst, 0, &b[from..from + n]);
+        return;
+    }
+    let k = a.len() - at;
+    if n <= k {
+        copy_at(dst, 0, &a[at..at + n]);
+        return;
+    }
+    copy_at(dst, 0, &a[at..]);
+    copy_at(dst, k, &b[..n - k]);
 }
 
 // Writes n zeros at place at of a slice.

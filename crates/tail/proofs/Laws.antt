@@ -1,12 +1,12 @@
--- Parts of two joined strings, the chain over their blocks, and the lengths of a tail and of the blocks before it.
+-- The chain over the blocks of two joined strings, and the lengths of a tail and of the blocks before it.
 -- Assumes nothing.
 use mathlib.Core.Path.{_≡_, ap, sym, _∙_}
 use mathlib.Core.List.{List, _++_}
 use Prim.Native.Nat.{ℕ, _+_, _-_, _*_, _/_, _%_, _≤_, _<_}
 use native.Mathlib.Decide.{decLt}
 use native.Mathlib.Omega.{arith}
-use lib.ListN.{length, take, drop, length-drop, take-append-drop}
-use lib.Seq.{take-append-le, take-append-add, drop-append-le, drop-append-add, length-take-le}
+use lib.ListN.{length, take, drop, take-append-drop}
+use lib.Seq.{drop-append-add, length-take-le}
 use Rattle.octets.specs.Octets.{put, part}
 use Rattle.octets.proofs.Strings.{part-rest}
 use Rattle.cmac.specs.Cmac.{chain}
@@ -14,25 +14,6 @@ use Rattle.cmac.proofs.Laws.{chain-front, chain-add}
 use Rattle.s2v.specs.S2v.{tailLength}
 use Rattle.s2v.proofs.Laws.{Tail, tail, tail-short, tail-long}
 use Rattle.tail.specs.Tail.{passedBlocks, leavingBlocks}
-
--- ---- two joined strings
-
-module _ (a b : List ℕ) (at n : ℕ) where
-  -- a part that lies in the second string
-  pub part-right : length a ≤ at → part (a ++ b) at n ≡ part b (at - length a) n
-  part-right h =
-      let place : at ≡ length a + (at - length a) = omega arith in
-      ap (take n) (ap (λ (k : ℕ). drop k (a ++ b)) place ∙ drop-append-add a b (at - length a))
-
-  -- a part that lies in the first
-  pub part-left : at + n ≤ length a → part (a ++ b) at n ≡ part a at n
-  part-left h = ap (take n) (drop-append-le at a b (omega arith)) ∙ take-append-le n (drop at a) b (simp length-drop (omega arith))
-
-  -- a part that lies in both
-  pub part-seam : at ≤ length a → length a - at ≤ n → part (a ++ b) at n ≡ drop at a ++ take (n - (length a - at)) b
-  part-seam h k =
-      let count : n ≡ length (drop at a) + (n - (length a - at)) = simp length-drop (omega arith) in
-      ap (take n) (drop-append-le at a b h) ∙ ap (λ (m : ℕ). take m (drop at a ++ b)) count ∙ take-append-add (drop at a) b (n - (length a - at))
 
 module _ (E : List ℕ → List ℕ) (c : List ℕ) where
   -- n blocks that were copied to the front of a string are chained as where they stood

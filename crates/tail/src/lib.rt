@@ -3,7 +3,6 @@ ghost use mathlib.Core.Path.{_≡_};
 ghost use mathlib.Core.List.{_++_};
 ghost use Prim.Native.Nat.{_+_, _*_, _^_, _≤_, _<_};
 ghost use lib.ListN.{length, drop};
-ghost use Rattle.octets.specs.Octets.{put, part};
 ghost use Rattle.aes.specs.Cipher.{cipher};
 ghost use Rattle.aes.specs.Engine.{Ready};
 ghost use Rattle.aes.specs.Work.{Reports};
@@ -26,25 +25,6 @@ pub struct Absorbed {
     pub tail: Tail,
 }
 
-// Copies n bytes from a place of two joined strings to the front of a slice.
-fn copy_joined(dst: &mut [u8], a: &[u8], b: &[u8], at: usize, n: usize)
-    requires { ⌜ (n ≤ length (now dst)) × (at + n ≤ length (now a) + length (now b)) ⌝ }
-    ensures { λ _. ⌜ now (dst .exit) ≡ put (now (dst .entry)) 0 (part (now (a .entry) ++ now (b .entry)) at n) ⌝ }
-{
-    if a.len() <= at {
-        let from = at - a.len();
-        octets::copy_at(dst, 0, &b[from..from + n]);
-        return;
-    }
-    let k = a.len() - at;
-    if n <= k {
-        octets::copy_at(dst, 0, &a[at..at + n]);
-        return;
-    }
-    octets::copy_at(dst, 0, &a[at..]);
-    octets::copy_at(dst, k, &b[..n - k]);
-}
-
 // The chain from c over the first n blocks of two joined strings, at most two.
 fn chain_front(
     engine: &Engine,
@@ -59,7 +39,7 @@ fn chain_front(
     ensures { λ r. ⌜ Reports (chain (cipher width (now (keys .entry))) c (now (a .entry) ++ now (b .entry)) n) (chainWork n) r ⌝ }
 {
     let mut front = [0u8; 32];
-    copy_joined(&mut front, a, b, 0, 16 * n);
+    octets::copy_joined(&mut front, a, b, 0, 16 * n);
     cmac::chain_blocks(engine, width, keys, c, &front, n)
 }
 
@@ -91,7 +71,7 @@ fn tail_joined(a: &[u8], b: &[u8], at: usize, n: usize) -> Tail
     ensures { λ r. ⌜ r ≡ tailOf (drop at (now (a .entry) ++ now (b .entry))) ⌝ }
 {
     let mut tail = [0u8; 31];
-    copy_joined(&mut tail, a, b, at, n);
+    octets::copy_joined(&mut tail, a, b, at, n);
     tail
 }
 

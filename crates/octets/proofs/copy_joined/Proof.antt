@@ -1,4 +1,4 @@
--- `tail::copy_joined` meets its contract.
+-- `octets::copy_joined` meets its contract.
 -- Assumes nothing.
 use mathlib.Core.Path.{_≡_, ap, sym, _∙_}
 use mathlib.Core.List.{List}
@@ -6,11 +6,11 @@ use Prim.Native.Nat.{ℕ, _+_, _-_}
 use native.Mathlib.Omega.{arith}
 use lib.ListN.{length, take, drop, length-take, length-drop}
 use borrow.Author.Needs.{needs}
 use Rattle.octets.specs.Octets.{put}
 use Rattle.octets.proofs.Strings.{part-to, part-rest, put-put}
-use Rattle.tail.proofs.Laws.{part-right, part-left, part-seam}
-use Rattle.tail.proofs.copy_joined.Statement.{statement}
-use Rattle.tail.proofs.copy_joined.Tie as tie
+use Rattle.octets.proofs.Joined.{part-right, part-left, part-seam}
+use Rattle.octets.proofs.copy_joined.Statement.{statement}
+use Rattle.octets.proofs.copy_joined.Tie as tie
 
 sub-from : tie.Need-sub-from
 sub-from c = search needs
