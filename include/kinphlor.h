@@ -7,7 +7,7 @@
  * kinphlor_seal and kinphlor_open work under one key. kinphlor_open_ring is for the time in which keys change: it tries
  * the keys of a ring from slot 0 on and stops at the first that opens the record. With a ring of one key it does what
  * kinphlor_open does. Two functions below are for planning: kinphlor_planned_work tells how many blocks a record of known
- * lengths takes, kinphlor_dearest_header how many its header strings can take at the most while their lengths are open.
+ * lengths takes, kinphlor_worst_header how many its header strings can take at the most while their lengths are open.
  *
  * seal, open and open_ring take the same arguments but for the keys. n is the plaintext's length.
  *
@@ -67,7 +67,7 @@ extern "C" {
 /* The most keys in a ring. */
 #define KINPHLOR_RING_MAX 4
 
-/* The most header strings, and the most header bytes, that kinphlor_dearest_header plans for. */
+/* The most header strings, and the most header bytes, that kinphlor_worst_header plans for. */
 #define KINPHLOR_STRINGS_MAX 126
 #define KINPHLOR_HEADER_MAX 1048576
 
@@ -85,7 +85,7 @@ enum kinphlor_answer {
     KINPHLOR_STATE = 9,          /* a stream state or a head that is not one for the call; never from these functions */
     KINPHLOR_EMPTY_NONCE = 10,   /* nonce_len is 0 */
     KINPHLOR_RING_LENGTH = 11,   /* ring_len is not one to four times key_len; from kinphlor_open_ring alone */
-    KINPHLOR_HEADER_PLAN = 12    /* header_len, count or least out of bounds; from kinphlor_dearest_header alone */
+    KINPHLOR_HEADER_PLAN = 12    /* header_len, count or least out of bounds; from kinphlor_worst_header alone */
 };
 
 uint64_t kinphlor_seal(const uint8_t *key, size_t key_len, const uint8_t *header, size_t header_len,
@@ -113,7 +113,7 @@ uint64_t kinphlor_open_ring(size_t key_len, const uint8_t *ring, size_t ring_len
 uint64_t kinphlor_planned_work(uint32_t ad_len, uint32_t nonce_len, size_t n);
 
 /*
- * The dearest header, for whoever has not picked the header strings yet. Of all lists of count lengths that sum to
+ * The worst header, for whoever has not picked the header strings yet. Of all lists of count lengths that sum to
  * header_len, none of them under least, it writes one whose strings have the most blocks, counted as above. No other such
  * list has more. Several may have as many; which of them is written is left open, and may be another in a later version.
  *
@@ -131,7 +131,7 @@ uint64_t kinphlor_planned_work(uint32_t ad_len, uint32_t nonce_len, size_t n);
  * depend on its order. More strings are for records that a program in Rattle seals. lens must be valid for 126 numbers
  * and not null.
  */
-uint64_t kinphlor_dearest_header(size_t header_len, size_t count, size_t least, uint32_t lens[KINPHLOR_STRINGS_MAX]);
+uint64_t kinphlor_worst_header(size_t header_len, size_t count, size_t least, uint32_t lens[KINPHLOR_STRINGS_MAX]);
 
 /* The answer in a result: one of enum kinphlor_answer. */
 static inline uint32_t kinphlor_number(uint64_t result) { return (uint32_t)(result >> 32); }
@@ -142,7 +142,7 @@ static inline uint32_t kinphlor_slot(uint64_t result) { return (uint32_t)(result
 /* The length in a result of seal, open or open_ring: how many bytes of the output were written. */
 static inline uint32_t kinphlor_length(uint64_t result) { return (uint32_t)(result & 0x0fffffffu); }
 
-/* The blocks in a result of kinphlor_dearest_header. */
+/* The blocks in a result of kinphlor_worst_header. */
 static inline uint32_t kinphlor_blocks(uint64_t result) { return (uint32_t)(result & 0xffffffffu); }
 
 /* The scratch that a plaintext of n bytes needs. */

@@ -5,7 +5,7 @@
 #include <ucontext.h>
 
 enum { ROOM = 1 << 18, LIMIT = 8192, PAINT = 0xa5, SIZES = 3 };
-enum { NONE, SEAL, OPEN, OPEN_RING, DEAREST };
+enum { NONE, SEAL, OPEN, OPEN_RING, WORST_HEADER };
 
 static unsigned char room[ROOM];
 static ucontext_t here, there;
@@ -28,8 +28,8 @@ static void call(void)
         answer = kinphlor_open_ring(key_len, ring, KINPHLOR_RING_MAX * key_len, header, 28, 16, 12, sealed, record_len + 16, record,
                                     record_len, scratch, sizeof scratch);
         break;
-    case DEAREST:
-        answer = kinphlor_dearest_header(KINPHLOR_HEADER_MAX, KINPHLOR_STRINGS_MAX, 1, lens);
+    case WORST_HEADER:
+        answer = kinphlor_worst_header(KINPHLOR_HEADER_MAX, KINPHLOR_STRINGS_MAX, 1, lens);
         break;
     }
 }
@@ -90,7 +90,7 @@ int main(void)
             }
         }
     }
-    function = DEAREST;
+    function = WORST_HEADER;
     planning = taken() - idle;
     if (!succeeded()) {
         return 1;

@@ -1,4 +1,4 @@
-/* kinphlor.h called from C and C++: sealing, opening, rings, damaged records, NULL for empty buffers, planned work, dearest headers, texts. */
+/* kinphlor.h called from C and C++: sealing, opening, rings, damaged records, NULL for empty buffers, planned work, worst headers, texts. */
 #include "kinphlor.h"
 
 #include <stdio.h>
@@ -218,8 +218,8 @@ static void planned(void) {
     }
 }
 
-/* The dearest list of figures at the edges, its blocks worked out by hand; 0 blocks where the figures are refused. */
-static void dearest(void) {
+/* The worst list of figures at the edges, its blocks worked out by hand; 0 blocks where the figures are refused. */
+static void worst_header(void) {
     static const struct {
         size_t header_len, count, least;
         uint32_t blocks;
@@ -257,7 +257,7 @@ static void dearest(void) {
         uint64_t result, sum = 0, blocks = 0;
 
         memset(memory, FILL, sizeof memory);
-        result = kinphlor_dearest_header(rows[i].header_len, rows[i].count, rows[i].least, lens);
+        result = kinphlor_worst_header(rows[i].header_len, rows[i].count, rows[i].least, lens);
         CHECK("the answer", kinphlor_number(result) == (ok ? KINPHLOR_OK : KINPHLOR_HEADER_PLAN));
         CHECK("the most blocks", kinphlor_blocks(result) == rows[i].blocks);
         for (j = 0; j < KINPHLOR_STRINGS_MAX; j++) {
@@ -278,10 +278,10 @@ static void dearest(void) {
     }
 }
 
-/* The dearest header of two strings, asked for as kinphlor.h says: a record is sealed behind it, and none takes more blocks. */
-static void dearest_pair(uint32_t header_len) {
+/* The worst header of two strings, asked for as kinphlor.h says: a record is sealed behind it, and none takes more blocks. */
+static void worst_pair(uint32_t header_len) {
     uint32_t lens[KINPHLOR_STRINGS_MAX], nonce_len;
-    const uint64_t result = kinphlor_dearest_header(header_len, 2, 0, lens);
+    const uint64_t result = kinphlor_worst_header(header_len, 2, 0, lens);
     const uint64_t most = 2 + (uint64_t)kinphlor_blocks(result) + 3 + 3;
 
     CHECK("a list", kinphlor_number(result) == KINPHLOR_OK);
@@ -339,8 +339,8 @@ int main(void) {
     nulls();
     ring_nulls();
     planned();
-    dearest();
-    for (i = 1; i <= sizeof header; i++) dearest_pair((uint32_t)i);
+    worst_header();
+    for (i = 1; i <= sizeof header; i++) worst_pair((uint32_t)i);
     texts();
     printf("c: %u checks passed\n", checks);
     return 0;

@@ -95,7 +95,7 @@ static uint64_t record_work(void) { return kinphlor_planned_work(AD_LEN, NONCE_L
 static uint32_t worst_header(size_t strings, size_t bytes) {
     uint32_t lens[KINPHLOR_STRINGS_MAX];
 
-    return kinphlor_blocks(kinphlor_dearest_header(bytes, strings, 1, lens));
+    return kinphlor_blocks(kinphlor_worst_header(bytes, strings, 1, lens));
 }
 
 /* Whether a result has this answer and this length. */
@@ -314,7 +314,7 @@ static void show_changing(const uint8_t ring[KEYS * KEY_LEN], const uint8_t key[
     show_colour(result);
 }
 
-/* The dearest headers of a few strings and bytes, with the blocks that they must have. */
+/* The worst headers of a few strings and bytes, with the blocks that they must have. */
 static void show_headers(void) {
     static const struct {
         size_t strings, bytes;

@@ -1,5 +1,5 @@
 //! The work of calls at every short length: whole calls under keys and rings, heads and what begins from them; what is
-//! planned; and records behind the dearest headers. Each call's work is held against the sum of slip 5 where the call is
+//! planned; and records behind the worst headers. Each call's work is held against the sum of slip 5 where the call is
 //! made (whole::run, heads::made, heads::record), and that sum here against a count of what goes through the cipher of a
 //! plain AES-SIV.
 
@@ -37,7 +37,7 @@ pub fn run(Pieces { peers, random, .. }: &mut Pieces) {
         }
     }
     plans();
-    dearest(peers, random);
+    worst_headers(peers, random);
 }
 
 /// The plain AES-SIV gives what is wanted, and so many blocks go through its cipher.
@@ -134,18 +134,18 @@ fn plans() {
     }
 }
 
-/// Records behind the dearest header lists: the blocks that are given are what the calls take for the header.
-fn dearest(peers: &Peers, random: &mut Random) {
+/// Records behind the worst header lists: the blocks that are given are what the calls take for the header.
+fn worst_headers(peers: &Peers, random: &mut Random) {
     for (header_len, count, least) in [
         (17, 126, 0), (142, 126, 1), (0, 1, 0), (0, 126, 0), (1, 1, 1), (126, 126, 1), (33, 2, 0), (34, 2, 1), (100, 5, 1),
         (60, 4, 0), (1000, 126, 0), (1000, 126, 1), (70000, 3, 0),
     ] {
         let mut places = [0; STRINGS_MAX];
-        let (number, blocks) = library::dearest_header(header_len, count, least, &mut places);
+        let (number, blocks) = library::worst_header(header_len, count, least, &mut places);
         let key_len = random.pick(&KEY_LENS);
         let context = Context::random(random, key_len, places[..count].to_vec());
         let plain = random.bytes(40);
-        check::holds(|| format!("dearest header of {header_len} bytes and {count} strings: {number}"), number == 0);
+        check::holds(|| format!("worst header of {header_len} bytes and {count} strings: {number}"), number == 0);
         check::holds(
             || name(&context, plain.len(), &format!("{blocks} blocks for the header")),
             work::whole(&context.lens, plain.len()) == work::KEY + blocks + work::plain(plain.len()),

@@ -14,7 +14,7 @@ unsafe extern "C" {
         nonce_len: u32, input: *const u8, input_len: usize, output: *mut u8, output_len: usize, scratch: *mut u8,
         scratch_len: usize) -> u64;
     fn kinphlor_planned_work(ad_len: u32, nonce_len: u32, n: usize) -> u64;
-    fn kinphlor_dearest_header(header_len: usize, count: usize, least: usize, lens: *mut u32) -> u64;
+    fn kinphlor_worst_header(header_len: usize, count: usize, least: usize, lens: *mut u32) -> u64;
 }
 
 /// The longest plaintext.
@@ -101,8 +101,8 @@ pub fn planned_work(ad_len: u32, nonce_len: u32, n: usize) -> u64 {
 }
 
 /// A number, and the blocks of the list that was written.
-pub fn dearest_header(header_len: usize, count: usize, least: usize, lens: &mut [u32; STRINGS_MAX]) -> (u64, u64) {
-    let result = unsafe { kinphlor_dearest_header(header_len, count, least, lens.as_mut_ptr()) };
+pub fn worst_header(header_len: usize, count: usize, least: usize, lens: &mut [u32; STRINGS_MAX]) -> (u64, u64) {
+    let result = unsafe { kinphlor_worst_header(header_len, count, least, lens.as_mut_ptr()) };
     (result >> 32, result & 0xffff_ffff)
 }
 

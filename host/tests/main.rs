@@ -1,7 +1,7 @@
-//! libkinphlor.a against OpenSSL's libcrypto and libgcrypt, and its dearest headers against lists made here. Its last line is `host: N checks passed`.
+//! libkinphlor.a against OpenSSL's libcrypto and libgcrypt, and its worst headers against lists made here. Its last line is `host: N checks passed`.
 
 mod cases;
-mod dearest;
+mod worst_header;
 
 use cases::Cases;
 use shared::context::Peers;
@@ -21,8 +21,8 @@ fn main() {
         ("ring buffers of every length", Cases::ring_buffers),
         ("tags searched by their end", Cases::searched_tags),
         ("tags chosen by where the counter carries", Cases::chosen_tags),
-        ("the dearest header beside every list of few bytes", dearest::every_list),
-        ("the dearest header beside a greedy list", dearest::greedy_lists),
-        ("figures that no header list is planned for", dearest::refused),
+        ("the worst header beside every list of few bytes", worst_header::every_list),
+        ("the worst header beside a greedy list", worst_header::greedy_lists),
+        ("figures that no header list is planned for", worst_header::refused),
     ]);
 }

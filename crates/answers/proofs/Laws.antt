@@ -14,7 +14,7 @@ use Rattle.answers.specs.declared.Answer.{Answer}
 use Rattle.answers.specs.declared.Answer.the-variants.{Ok, Refused}
 use Rattle.answers.specs.declared.Refusal.{Refusal}
 use Rattle.answers.specs.declared.Refusal.the-variants.{KeyLength, HeaderCount, HeaderLengths, TooLong, SealedLength, OutputShort, ScratchShort, Forged, State, EmptyNonce, RingLength, HeaderPlan}
-use Rattle.answers.specs.Answer.{Outcome, Row, first, numberOf, outcomeOf, numberAlone}
+use Rattle.answers.specs.Answer.{Outcome, Row, first, numberOf, outcomeOf, refusal}
 use Rattle.answers.proofs.Answer.{the-type}
 
 -- ---- the order of refusals
@@ -120,22 +120,22 @@ told-ok (Ok n) k = refl
 told-ok (Refused r) k = let z : _≡_ {A = ℕ} 1 0 = k in absurd (omega arith)
 
 -- a refusal has length 0
-pub told-length : (a : Answer) → OneOf (1 ∷ []) (declared.tagOf the-type a) → outcomeOf a 0 ≡ numberAlone (outcomeOf a 0 .number)
+pub told-length : (a : Answer) → OneOf (1 ∷ []) (declared.tagOf the-type a) → outcomeOf a 0 ≡ refusal (outcomeOf a 0 .number)
 told-length (Ok n) k = let z : _≡_ {A = ℕ} 0 1 = k in absurd (omega arith)
 told-length (Refused r) k = refl
 
 -- past a judgement none was due
-pub passed : (a : Answer) (n : ℕ) → OneOf (0 ∷ []) (declared.tagOf the-type a) → outcomeOf a 0 ≡ numberAlone n → n ≡ 0
+pub passed : (a : Answer) (n : ℕ) → OneOf (0 ∷ []) (declared.tagOf the-type a) → outcomeOf a 0 ≡ refusal n → n ≡ 0
 passed a n k e = sym (ap (λ (o : Outcome). o .number) e) ∙ told-ok a k
 
 -- a refusal stays due whatever rows come behind
-pub still-due : (a : Answer) (rows rest : List Row) → OneOf (1 ∷ []) (declared.tagOf the-type a) → outcomeOf a 0 ≡ numberAlone (first rows) → outcomeOf a 0 ≡ numberAlone (first (rows ++ rest))
-still-due a rows rest k e = e ∙ ap numberAlone (sym (first-stop rows rest (λ z. told-refused a k (ap (λ (o : Outcome). o .number) e ∙ z))))
+pub still-due : (a : Answer) (rows rest : List Row) → OneOf (1 ∷ []) (declared.tagOf the-type a) → outcomeOf a 0 ≡ refusal (first rows) → outcomeOf a 0 ≡ refusal (first (rows ++ rest))
+still-due a rows rest k e = e ∙ ap refusal (sym (first-stop rows rest (λ z. told-refused a k (ap (λ (o : Outcome). o .number) e ∙ z))))
 
 -- past a judgement the rows behind decide
-pub next-due : (a : Answer) (rows rest : List Row) → lacks 0 rows ≡ true → OneOf (0 ∷ []) (declared.tagOf the-type a) → outcomeOf a 0 ≡ numberAlone (first rows)
-    → numberAlone (first rest) ≡ numberAlone (first (rows ++ rest))
-next-due a rows rest l k e = ap numberAlone (sym (first-pass rows rest l (passed a (first rows) k e)))
+pub next-due : (a : Answer) (rows rest : List Row) → lacks 0 rows ≡ true → OneOf (0 ∷ []) (declared.tagOf the-type a) → outcomeOf a 0 ≡ refusal (first rows)
+    → refusal (first rest) ≡ refusal (first (rows ++ rest))
+next-due a rows rest l k e = ap refusal (sym (first-pass rows rest l (passed a (first rows) k e)))
 
 -- with another work number and length are the same
 pub outcome-with : (a : Answer) (w w′ : ℕ) {o : Outcome} {v : ℕ} → outcomeOf a w ≡ o → w′ ≡ v → outcomeOf a w′ ≡ record { number = o .number; count = o .count; work = v }

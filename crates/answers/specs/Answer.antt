@@ -33,8 +33,8 @@ numberOf HeaderPlan = 12
 abbrev pub success : ℕ → ℕ → Outcome
 success n w = record { number = 0; count = n; work = w }
 
-abbrev pub numberAlone : ℕ → Outcome
-numberAlone n = record { number = n; count = 0; work = 0 }
+abbrev pub refusal : ℕ → Outcome
+refusal n = record { number = n; count = 0; work = 0 }
 
 abbrev pub forged : ℕ → Outcome
 forged w = record { number = 8; count = 0; work = w }

@@ -4,12 +4,12 @@ ghost use mathlib.Core.Bool.{not};
 ghost use mathlib.Core.List.{[], _∷_};
 ghost use Prim.Native.Nat.{_+_};
 ghost use lib.Dec.{ltb};
-ghost use Rattle.answers.specs.Answer.{outcomeOf, row, first, numberAlone};
+ghost use Rattle.answers.specs.Answer.{outcomeOf, row, first, refusal};
 use answers::Answer;
 use answers::Refusal;
 
 // Whether n bytes behind those that were used are more than the most.
-fn passes(most: usize, used: usize, n: usize) -> bool
+fn exceeds(most: usize, used: usize, n: usize) -> bool
     ensures { λ r. ⌜ r ≡ ltb most (used + n) ⌝ }
 {
     if most < used {
@@ -23,12 +23,12 @@ fn passes(most: usize, used: usize, n: usize) -> bool
 
 // The refusals of a call that takes a piece of n bytes.
 pub fn piece(fits: bool, most: usize, used: usize, n: usize) -> Answer
-    ensures { λ r. ⌜ outcomeOf r 0 ≡ numberAlone (first (row 9 (not fits) ∷ row 4 (ltb most (used + n)) ∷ [])) ⌝ }
+    ensures { λ r. ⌜ outcomeOf r 0 ≡ refusal (first (row 9 (not fits) ∷ row 4 (ltb most (used + n)) ∷ [])) ⌝ }
 {
     if !fits {
         return Answer::Refused(Refusal::State);
     }
-    if passes(most, used, n) {
+    if exceeds(most, used, n) {
         return Answer::Refused(Refusal::TooLong);
     }
     Answer::Ok(0)
@@ -36,7 +36,7 @@ pub fn piece(fits: bool, most: usize, used: usize, n: usize) -> Answer
 
 // The refusals of a call that writes so many bytes to an output.
 pub fn room(fits: bool, need: usize, output: usize) -> Answer
-    ensures { λ r. ⌜ outcomeOf r 0 ≡ numberAlone (first (row 9 (not fits) ∷ row 6 (ltb output need) ∷ [])) ⌝ }
+    ensures { λ r. ⌜ outcomeOf r 0 ≡ refusal (first (row 9 (not fits) ∷ row 6 (ltb output need) ∷ [])) ⌝ }
 {
     if !fits {
         return Answer::Refused(Refusal::State);
@@ -49,13 +49,13 @@ pub fn room(fits: bool, need: usize, output: usize) -> Answer
 
 // The refusals of a call that takes a piece of n bytes and writes as many at place at of an output.
 pub fn piece_to(fits: bool, most: usize, used: usize, n: usize, at: usize, output: usize) -> Answer
-    ensures { λ r. ⌜ outcomeOf r 0 ≡ numberAlone (first (row 9 (not fits) ∷ row 4 (ltb most (used + n)) ∷ row 6 (ltb output (at + n)) ∷ [])) ⌝ }
+    ensures { λ r. ⌜ outcomeOf r 0 ≡ refusal (first (row 9 (not fits) ∷ row 4 (ltb most (used + n)) ∷ row 6 (ltb output (at + n)) ∷ [])) ⌝ }
 {
     let answer = piece(fits, most, used, n);
     if let Answer::Refused(_) = answer {
         return answer;
     }
-    if passes(output, at, n) {
+    if exceeds(output, at, n) {
         return Answer::Refused(Refusal::OutputShort);
     }
     Answer::Ok(0)

@@ -14,7 +14,7 @@ use lib.Seq.{drop-drop, drop-at, drop-append-le, take-append-le, append-snoc, le
 use Rattle.octets.specs.Octets.{xors, part}
 use Rattle.octets.proofs.Strings.{Written, written-more, written-all, put-all, length-xors, xors-nil, xors-zeros}
 use Rattle.cmac.specs.declared.Subkeys.{Subkeys}
-use Rattle.cmac.specs.Cmac.{shifted, remainder, double, pad, PaddingFolds, lastBlock, blocksBefore, chain, chainWork, cmacFrom, cmacWork}
+use Rattle.cmac.specs.Cmac.{shifted, R, double, pad, PaddingFolds, lastBlock, blocksBefore, chain, chainWork, cmacFrom, cmacWork}
 
 -- ---- doubling
 
@@ -36,9 +36,9 @@ pub length-double : (b : List ℕ) → length (double b) ≡ length b
 unfolding double
 length-double b = go (ltb (getD b 0 0) 128)
   where
-    go : (t : Bool) → length (cond t (shifted b) (xors (shifted b) remainder)) ≡ length b
+    go : (t : Bool) → length (cond t (shifted b) (xors (shifted b) R)) ≡ length b
     go true = length-shifted b
-    go false = length-xors (shifted b) remainder ∙ length-shifted b
+    go false = length-xors (shifted b) R ∙ length-shifted b
 
 -- a turn of the loop that shifts: one byte more is written
 pub shifted-more : (b r : List ℕ) (i v : ℕ) → i < length b → v ≡ 2 * getD b i 0 % 256 + getD b (i + 1) 0 / 128

@@ -20,12 +20,12 @@ shifted (b ∷ []) = (2 * b % 256) ∷ []
 shifted (b ∷ (c ∷ l)) = (2 * b % 256 + c / 128) ∷ shifted (c ∷ l)
 
 -- 5.3, R for blocks of 128 bits: fifteen zeros, then 87
-abbrev pub remainder : List ℕ
-remainder = replicate 15 0 ++ (0x87 ∷ [])
+abbrev pub R : List ℕ
+R = replicate 15 0 ++ (0x87 ∷ [])
 
 -- 6.1, and RFC 5297 2.3, dbl: a block doubled
 unfoldable pub double : List ℕ → List ℕ
-double b = cond (ltb (getD b 0 0) 128) (shifted b) (xors (shifted b) remainder)
+double b = cond (ltb (getD b 0 0) 128) (shifted b) (xors (shifted b) R)
 
 -- 6.1, subkey generation: K1 is L doubled, K2 is K1 doubled
 unfoldable pub subkeys : List ℕ → Subkeys

@@ -18,7 +18,7 @@ pub struct Subkeys {
     pub k2: Block,
 }
 
-const REMAINDER: Block = [0, 0, 0, 0, 0, 0, 0, 0, 0, 0, 0, 0, 0, 0, 0, 0x87];
+const R: Block = [0, 0, 0, 0, 0, 0, 0, 0, 0, 0, 0, 0, 0, 0, 0, 0x87];
 
 // A byte moved left by one bit, with the top bit of the next.
 fn shifted_byte(b: u8, next: u8) -> u8
@@ -49,7 +49,7 @@ pub fn double(b: Block) -> Block
     if b[0] < 128 {
         return s;
     }
-    octets::xor_block(s, REMAINDER)
+    octets::xor_block(s, R)
 }
 
 // L: the cipher of the zero block.

@@ -11,7 +11,7 @@ use lib.Pow.{pow-add}
 use lib.Seq.{drop-cons, take-all}
 use Rattle.octets.specs.Octets.{part, entries}
 use Rattle.octets.proofs.Strings.{length-part}
-use Rattle.counter.specs.Counter.{number, bytesOfNumber, plus}
+use Rattle.counter.specs.Counter.{number, bytesOfNumber, counterBlock}
 
 -- ---- powers of 256
 
@@ -102,13 +102,13 @@ module _ (q : List ℕ) (long : length q ≡ 16) {hi lo i sum : ℕ} (high : hi 
   sum-fits : sum < 2 ^ 64
   sum-fits = omega arith
 
-  pub plus-kept : lo ≤ sum → bytesOfNumber 8 hi ++ bytesOfNumber 8 sum ≡ plus q i
-  unfolding plus
-  plus-kept h = bytes-halves (number q + i) hi sum (whole ∙ ap (λ (n : ℕ). hi * 2 ^ 64 + n) (kept lo i sum lo-fits i-fits e h)) sum-fits
+  pub counterBlock-kept : lo ≤ sum → bytesOfNumber 8 hi ++ bytesOfNumber 8 sum ≡ counterBlock q i
+  unfolding counterBlock
+  counterBlock-kept h = bytes-halves (number q + i) hi sum (whole ∙ ap (λ (n : ℕ). hi * 2 ^ 64 + n) (kept lo i sum lo-fits i-fits e h)) sum-fits
 
-  pub plus-carried : sum < lo → bytesOfNumber 8 ((hi + 1) % 2 ^ 64) ++ bytesOfNumber 8 sum ≡ plus q i
-  unfolding plus
-  plus-carried h =
+  pub counterBlock-carried : sum < lo → bytesOfNumber 8 ((hi + 1) % 2 ^ 64) ++ bytesOfNumber 8 sum ≡ counterBlock q i
+  unfolding counterBlock
+  counterBlock-carried h =
       ap (λ (l : List ℕ). l ++ bytesOfNumber 8 sum) (bytes-mod 8 0 (hi + 1))
       ∙ bytes-halves (number q + i) (hi + 1) sum
       (whole ∙ ap (λ (n : ℕ). hi * 2 ^ 64 + n) (carried lo i sum lo-fits i-fits e h) ∙ up hi sum)

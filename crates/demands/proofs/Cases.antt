@@ -5,11 +5,11 @@ use Rattle.octets.specs.Octets.{xors}
 use Rattle.field.specs.Field.{xtimes, products, mul, squares, inverse, bit, fromBits, affine, sbox}
 use Rattle.cmac.specs.Cmac.{shifted, double, pad}
 use Rattle.s2v.specs.S2v.{xorend, tailLength}
-use Rattle.counter.specs.Counter.{plus}
+use Rattle.counter.specs.Counter.{counterBlock}
 use Rattle.demands.specs.Cases.{Cases}
 
 pub twelve-cases : Cases
-unfolding xors xtimes products mul squares inverse bit fromBits affine sbox shifted double pad xorend tailLength plus
+unfolding xors xtimes products mul squares inverse bit fromBits affine sbox shifted double pad xorend tailLength counterBlock
 twelve-cases =
     record {
       case1 = refl;

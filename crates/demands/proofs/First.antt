@@ -16,9 +16,9 @@ use Rattle.answers.specs.declared.Answer.{Answer}
 use Rattle.answers.specs.declared.Answer.the-variants.{Ok, Refused}
 use Rattle.answers.specs.declared.Refusal.{Refusal}
 use Rattle.answers.specs.declared.Refusal.the-variants.{KeyLength, HeaderCount, HeaderLengths, TooLong, SealedLength, OutputShort, ScratchShort, Forged, State, EmptyNonce, RingLength, HeaderPlan}
-use Rattle.answers.specs.Answer.{Outcome, Row, row, first, success, numberAlone, forged, numberOf, outcomeOf}
+use Rattle.answers.specs.Answer.{Outcome, Row, row, first, success, refusal, forged, numberOf, outcomeOf}
 use Rattle.answers.proofs.Laws.{lacks, first-not, first-pass, first-stop, first-none, refusal-number, outcome-work, none-where}
-use Rattle.dearest.specs.Dearest.{planRows, GivesDearest}
+use Rattle.worst_header.specs.WorstHeader.{planRows, GivesWorst}
 use Rattle.whole.specs.Calls.{CallResult, refusedCall, isKeyLength, headerRows, openRows, sealTable, sealNumber, sealCall, openTable, openNumber, openCall}
 use Rattle.whole.specs.Ring.{slotCount, slotKey, ringRows, RingResult, openSlot, opensAt}
 use Rattle.whole.specs.Siv.{genuine, genuineWork}
@@ -33,7 +33,7 @@ use Rattle.stream.specs.declared.Stream.{Stream}
 use Rattle.stream.specs.State.{ended, start, tagOfStateWork}
 use Rattle.stream.specs.Steps.{StepResult, doneStep, refusedStep, settle, tagRows, beginBy, beginSealer, beginOpener, beginSealerFrom, beginOpenerFrom, addStep, turnStep, writeStep, closeStep, feedStep, finishTable, forgedStep, finishStep}
 use Rattle.kinphlor.specs.Interface.{aeadLens, emptyNonce, fromC}
-use Rattle.demands.specs.First.{order, keeps, FirstDue, none, here, later, FirstSeal, FirstOpen, rowsFromC, FirstFromC, noSlot, FirstRing, FirstDearest, restTable, FirstHead, FirstStep, FirstFinish, First}
+use Rattle.demands.specs.First.{order, keeps, FirstDue, none, here, later, FirstSeal, FirstOpen, rowsFromC, FirstFromC, noSlot, FirstRing, FirstWorst, restTable, FirstHead, FirstStep, FirstFinish, First}
 use Rattle.demands.proofs.Parts.{from-c-parts, ring-parts}
 use Rattle.demands.proofs.Pieces.{piece-work, added-work}
 use Rattle.demands.proofs.Slots.{chosen-noSlot, ring-comes-from-c}
@@ -57,7 +57,7 @@ module _ (key bytes lens input output scratch : List ℕ) where
   open-first = first-due (openTable key bytes lens input output scratch)
 
   open-lengths : openJudged key bytes lens input output scratch ≡ 0 → genuineWork key (strings bytes lens) input ≡ blockWork lens (length input - 16)
-  open-lengths j = genuine-lengths key bytes lens input (omega (arith, open-admits key bytes lens input output scratch j .listed))
+  open-lengths j = genuine-lengths key bytes lens input (omega (arith, open-admits key bytes lens input output scratch j .sums))
 
   sealing : FirstSeal key bytes lens input output scratch
   unfolding sealCall
@@ -65,7 +65,7 @@ module _ (key bytes lens input output scratch : List ℕ) where
       record {
         ordered = refl;
         first = seal-first;
-        done = λ e. (simp e (ap (success (length input + 16)) (sealed-lengths key bytes lens input (omega (arith, seal-admits key bytes lens input output scratch e .listed)))), simp e, simp e);
+        done = λ e. (simp e (ap (success (length input + 16)) (sealed-lengths key bytes lens input (omega (arith, seal-admits key bytes lens input output scratch e .sums)))), simp e, simp e);
         refused = λ n e z.
             let off = ne-eqb n 0 z in
             (simp (e, off), simp (e, off), simp (e, off));
@@ -191,7 +191,7 @@ module _ (keyLength : ℕ) (ring bytes lens input output scratch : List ℕ) whe
           first = subst (FirstDue (front ++ back)) (first-stop front back z) (first-due (front ++ back));
           done = λ e. absurd (z e);
           forged = λ e. absurd (first-not 8 front l8 (λ p. omega (arith, p)) e);
-          refused = λ n e m m8. (ap numberAlone e, refl, refl);
+          refused = λ n e m m8. (ap refusal e, refl, refl);
           slotless = λ m. refl;
         }
     by-ring k l l8 (goes {s} z g) =
@@ -216,19 +216,19 @@ module _ (keyLength : ℕ) (ring bytes lens input output scratch : List ℕ) whe
           slotless = λ m. chosen-closed _ count g (ne-eqb _ 0 m);
         }
 
--- ---- the dearest header list
+-- ---- the worst header list
 
-by-plan : (h k least : ℕ) {outcome : Outcome} {places : List ℕ} {blocks : ℕ} → GivesDearest h k least outcome places blocks → FirstDearest h k least outcome places blocks
+by-plan : (h k least : ℕ) {outcome : Outcome} {places : List ℕ} {blocks : ℕ} → GivesWorst h k least outcome places blocks → FirstWorst h k least outcome places blocks
 by-plan h k least {outcome = outcome} g =
     let number : outcome .number ≡ first (planRows h k least) = ap (λ (o : Outcome). o .number) (g .answer) in
     record {
       ordered = refl;
       first = subst (FirstDue (planRows h k least)) (sym number) (first-due (planRows h k least));
-      done = λ e. let z = sym number ∙ e in (g .answer ∙ ap numberAlone z, g .done z);
+      done = λ e. let z = sym number ∙ e in (g .answer ∙ ap refusal z, g .done z);
       past = λ e. g .done (sym number ∙ e) .past;
       refused = λ n e due.
           let zero = g .refused (λ z. due (sym e ∙ number ∙ z)) in
-          (g .answer ∙ ap numberAlone (sym number ∙ e), zero .0, zero .1);
+          (g .answer ∙ ap refusal (sym number ∙ e), zero .0, zero .1);
     }
 
 -- ---- heads and piecewise calls
@@ -260,7 +260,7 @@ rest-tag-ordered h lens restLength tagLength = refl
 
 by-head : (table : List Row) (w w′ : ℕ) (h : Head) → keeps order table ≡ true → (first table ≡ 0 → w ≡ w′) → FirstHead table (settleHead (first table) w h) w′ h
 by-head table w w′ h k works =
-    let t = settled (λ (r : MakeResult). r .outcome .number) (first table) (madeHead w h) (λ n. record { outcome = numberAlone n; head = zeroHead }) refl (λ n. refl) in
+    let t = settled (λ (r : MakeResult). r .outcome .number) (first table) (madeHead w h) (λ n. record { outcome = refusal n; head = zeroHead }) refl (λ n. refl) in
     record {
       ordered = k;
       first = subst (FirstDue table) (sym (t .number)) (first-due table);
@@ -311,7 +311,7 @@ header-work key bytes lens e = head-lengths bytes lens (omega (arith, header-adm
 
 -- and of those that follow a head's
 rest-work : (h : Head) (bytes lens : List ℕ) → first (restRows h lens (length bytes)) ≡ 0 → extendedWork (strings bytes lens) ≡ blocksOfAll lens
-rest-work h bytes lens e = extended-lengths bytes lens (omega (arith, rest-admits h lens (length bytes) e .listed))
+rest-work h bytes lens e = extended-lengths bytes lens (omega (arith, rest-admits h lens (length bytes) e .sums))
 
 finishing : (s : Stream) (output : List ℕ) → FirstFinish s output
 unfolding finishStep
@@ -336,12 +336,12 @@ finishing s output =
     go false e = step-settled (first (finishTable s output)) (doneStep (s .total) (tagOfStateWork s) ended output) s output refl .number
 
 -- a refusal by its number
-refusal : ℕ → Refusal
-refusal n =
+refusalOf : ℕ → Refusal
+refusalOf n =
     getD (KeyLength ∷ HeaderCount ∷ HeaderLengths ∷ TooLong ∷ SealedLength ∷ OutputShort ∷ ScratchShort ∷ Forged ∷ State ∷ EmptyNonce ∷ RingLength ∷ []) (pred n) HeaderPlan
 
-by-number : (r : Refusal) → refusal (numberOf r) ≡ r
-unfolding refusal
+by-number : (r : Refusal) → refusalOf (numberOf r) ≡ r
+unfolding refusalOf
 by-number KeyLength = refl
 by-number HeaderCount = refl
 by-number HeaderLengths = refl
@@ -360,7 +360,7 @@ answer-tells (Ok m) (Ok n) w w′ e = ap (λ (k : ℕ). Ok k) (ap (λ (o : Outco
 answer-tells (Ok m) (Refused r) w w′ e = absurd (refusal-number r (sym (ap (λ (o : Outcome). o .number) e)))
 answer-tells (Refused r) (Ok n) w w′ e = absurd (refusal-number r (ap (λ (o : Outcome). o .number) e))
 answer-tells (Refused r) (Refused s) w w′ e =
-    ap (λ (x : Refusal). Refused x) (sym (by-number r) ∙ ap (λ (o : Outcome). refusal (o .number)) e ∙ by-number s)
+    ap (λ (x : Refusal). Refused x) (sym (by-number r) ∙ ap (λ (o : Outcome). refusalOf (o .number)) e ∙ by-number s)
 
 outcome-tells : (a b : Answer) (w w′ : ℕ) → outcomeOf a w ≡ outcomeOf b w′ → (a ≡ b) × (w ≡ w′)
 outcome-tells a b w w′ e = (answer-tells a b w w′ e, sym (outcome-work a w) ∙ ap (λ (o : Outcome). o .work) e ∙ outcome-work b w′)
@@ -383,8 +383,8 @@ answers-or-first-refusal =
       openingRingParts = λ keyLength ring header input output scratch ad nonce.
           ring-parts keyLength ring header (aeadLens ad nonce) input output scratch (row 10 (eqb nonce 0) ∷ [])
           (ring-comes-from-c keyLength ring header input output scratch ad nonce);
-      findingDearest = λ h k least outcome places blocks g. by-plan h k least g;
-      findingDearestFromC = λ h k least places given g. by-plan h k least g;
+      findingWorst = λ h k least outcome places blocks g. by-plan h k least g;
+      findingWorstFromC = λ h k least places given g. by-plan h k least g;
       makingHead = λ key bytes lens. by-head _ _ _ _ refl (header-work key bytes lens);
       extendingHead = λ h bytes lens. by-head _ _ _ _ (rest-ordered h lens (length bytes)) (rest-work h bytes lens);
       beginningSealer = λ key bytes lens. by-begin _ _ _ (headOf key (strings bytes lens)) 1 zeros refl (header-work key bytes lens);

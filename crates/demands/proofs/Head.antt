@@ -31,13 +31,13 @@ use Rattle.demands.proofs.First.{answers-or-first-refusal}
 
 -- no refusal is due for an admitted key and list
 pub admitted : (key bytes lens : List ℕ) → Admits key bytes lens → first (headerRows (length key) lens (length bytes)) ≡ 0
-admitted key bytes lens a = simp (a .keyed, le-ltb 126 (length lens) (a .few), eq-eqb (total lens) (length bytes) (a .listed))
+admitted key bytes lens a = simp (a .keyed, le-ltb 126 (length lens) (a .countFits), eq-eqb (total lens) (length bytes) (a .sums))
 
 -- so its head is made
 pub made : (key bytes lens : List ℕ) → Admits key bytes lens → makeHead key bytes lens ≡ madeHead (2 + blocksOfAll lens) (headOf key (strings bytes lens))
 unfolding makeHead
 made key bytes lens a =
-    ap₂ (λ (n w : ℕ). settleHead n w (headOf key (strings bytes lens))) (admitted key bytes lens a) (head-lengths bytes lens (omega (arith, a .listed)))
+    ap₂ (λ (n w : ℕ). settleHead n w (headOf key (strings bytes lens))) (admitted key bytes lens a) (head-lengths bytes lens (omega (arith, a .sums)))
 
 -- a begin that succeeds reports the blocks of its strings, and 2 where it makes L and the CMAC of the zero block
 pub begun-work : (key bytes lens : List ℕ) (start : Start) (begin : Begin) → begun key bytes lens start begin .outcome .number ≡ 0
@@ -55,8 +55,8 @@ module _ (key bytes lens more moreLens : List ℕ) (a : Admits key bytes lens) w
       sym
       (strings-append (bytes ++ more) lens moreLens
       ∙ ap₂ (λ (x : List (List ℕ)) (y : List ℕ). x ++ strings y moreLens)
-      (sym (strings-within (bytes ++ more) lens) ∙ ap (λ (l : List ℕ). strings l lens) (take-at bytes more (total lens) (sym (a .listed))))
-      (drop-at bytes more (total lens) (sym (a .listed))))
+      (sym (strings-within (bytes ++ more) lens) ∙ ap (λ (l : List ℕ). strings l lens) (take-at bytes more (total lens) (sym (a .sums))))
+      (drop-at bytes more (total lens) (sym (a .sums))))
 
   same-head : extended (headOf key (strings bytes lens)) (strings more moreLens) ≡ headOf key (strings (bytes ++ more) (lens ++ moreLens))
   same-head = extended-head key (strings bytes lens) (strings more moreLens) ∙ ap (headOf key) joined
@@ -66,15 +66,15 @@ module _ (key bytes lens more moreLens : List ℕ) (a : Admits key bytes lens) w
   unfolding fitsHead headOf
   same-number =
       let counted : length (strings bytes lens) + length moreLens ≡ length (lens ++ moreLens) = omega (arith, length-strings bytes lens, length-append lens moreLens) in
-      let few : ltb 126 (length (strings bytes lens)) ≡ false = le-ltb 126 (length (strings bytes lens)) (omega (arith, length-strings bytes lens, a .few)) in
-      simp (halves (length key) (a .keyed) .half, few, a .keyed)
-      (ap₂ (λ (n : ℕ) (t : Bool). cond (ltb 126 n) 2 (cond (not t) 3 0)) counted listed)
+      let countFits : ltb 126 (length (strings bytes lens)) ≡ false = le-ltb 126 (length (strings bytes lens)) (omega (arith, length-strings bytes lens, a .countFits)) in
+      simp (halves (length key) (a .keyed) .half, countFits, a .keyed)
+      (ap₂ (λ (n : ℕ) (t : Bool). cond (ltb 126 n) 2 (cond (not t) 3 0)) counted sums)
     where
       sum : total (lens ++ moreLens) ≡ length bytes + total moreLens
-      sum = total-append lens moreLens ∙ ap (λ (n : ℕ). n + total moreLens) (a .listed)
+      sum = total-append lens moreLens ∙ ap (λ (n : ℕ). n + total moreLens) (a .sums)
 
-      listed : eqb (total moreLens) (length more) ≡ eqb (total (lens ++ moreLens)) (length (bytes ++ more))
-      listed =
+      sums : eqb (total moreLens) (length more) ≡ eqb (total (lens ++ moreLens)) (length (bytes ++ more))
+      sums =
           bool-ext (eqb (total moreLens) (length more)) (eqb (total (lens ++ moreLens)) (length (bytes ++ more)))
           (λ e. eq-eqb (total (lens ++ moreLens)) (length (bytes ++ more)) (omega (arith, sum, length-append bytes more, eqb-true (total moreLens) (length more) e)))
           (λ e. eq-eqb (total moreLens) (length more) (omega (arith, sum, length-append bytes more, eqb-true (total (lens ++ moreLens)) (length (bytes ++ more)) e)))
@@ -110,10 +110,10 @@ module _ (key bytes lens more moreLens : List ℕ) (a : Admits key bytes lens) w
   extends : total moreLens ≤ length more → first (headerRows (length key) (lens ++ moreLens) (length (bytes ++ more))) ≡ 0
       → extendHead (makeHead key bytes lens .head) more moreLens ≡ madeHead (blocksOfAll moreLens) (headOf key (strings (bytes ++ more) (lens ++ moreLens)))
   unfolding extendHead
-  extends listed z =
+  extends sums z =
       ap (λ (r : MakeResult). extendHead (r .head) more moreLens) (made key bytes lens a)
       ∙ ap₂ (λ (n : ℕ) (g : Head). settleHead n (extendedWork (strings more moreLens)) g) (same-number ∙ z) same-head
-      ∙ ap (λ (w : ℕ). madeHead w (headOf key (strings (bytes ++ more) (lens ++ moreLens)))) (extended-lengths more moreLens listed)
+      ∙ ap (λ (w : ℕ). madeHead w (headOf key (strings (bytes ++ more) (lens ++ moreLens)))) (extended-lengths more moreLens sums)
 
 -- a list that is divided is what it is joined from
 module _ (key bytes lens : List ℕ) (a : Admits key bytes lens) (n : ℕ) where
@@ -122,21 +122,21 @@ module _ (key bytes lens : List ℕ) (a : Admits key bytes lens) (n : ℕ) where
       let count : length (take n lens) + length (drop n lens) ≡ length lens = sym (length-append (take n lens) (drop n lens)) ∙ ap length (take-append-drop n lens) in
       record {
         keyed = a .keyed;
-        few = omega (arith, count, a .few);
-        listed = sym (length-take-le (total (take n lens)) bytes (omega (arith, total-take lens n, a .listed)));
+        countFits = omega (arith, count, a .countFits);
+        sums = sym (length-take-le (total (take n lens)) bytes (omega (arith, total-take lens n, a .sums)));
       }
 
   -- whatever is said of the joined list
   whole : {A : Type 0} (f : List ℕ → List ℕ → A) → f ((firstBytes key bytes lens n) ++ restBytes key bytes lens n) (take n lens ++ drop n lens) ≡ f bytes lens
   whole f = ap₂ f (take-append-drop (total (take n lens)) bytes) (take-append-drop n lens)
 
-  rest-listed : total (drop n lens) ≤ length (restBytes key bytes lens n)
-  rest-listed =
+  rest-sums : total (drop n lens) ≤ length (restBytes key bytes lens n)
+  rest-sums =
       omega (
         arith,
         length-drop (total (take n lens)) bytes,
         sym (total-append (take n lens) (drop n lens)) ∙ ap total (take-append-drop n lens),
-        a .listed,
+        a .sums,
       )
 
   split : Split key bytes lens n
@@ -153,7 +153,7 @@ module _ (key bytes lens : List ℕ) (a : Admits key bytes lens) (n : ℕ) where
               sym (blocks-append (take n lens) (drop n lens)) ∙ ap blocksOfAll (take-append-drop n lens),
             );
         extends =
-            extends key (firstBytes key bytes lens n) (take n lens) (restBytes key bytes lens n) (drop n lens) front-admitted rest-listed
+            extends key (firstBytes key bytes lens n) (take n lens) (restBytes key bytes lens n) (drop n lens) front-admitted rest-sums
             (whole (λ b l. first (headerRows (length key) l (length b))) ∙ admitted key bytes lens a)
             ∙ ap (madeHead (blocksOfAll (drop n lens))) (whole (λ b l. headOf key (strings b l)) ∙ sym (ap (λ (r : MakeResult). r .head) (made key bytes lens a)));
       }

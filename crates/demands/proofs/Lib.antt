@@ -11,4 +11,4 @@ pub mod Steps
 pub mod Third
 pub mod Tail
 pub mod Work
-pub mod Dearest
+pub mod WorstHeader

@@ -22,7 +22,7 @@ use Rattle.cmac.proofs.Laws.{chain-work, chain-front, chain-add}
 use Rattle.header.specs.Blocks.{sixteenths, blocksOf}
 use Rattle.s2v.specs.S2v.{tailLength, headerResult, tagFrom, s2v}
 use Rattle.s2v.proofs.Laws.{tail-short, tail-long, Tail, tail, tag-tail, length-headerResult}
-use Rattle.counter.specs.Counter.{clear, plus}
+use Rattle.counter.specs.Counter.{initialCounter, counterBlock}
 use Rattle.keystream.specs.KeyStream.{xorStream}
 use Rattle.keystream.specs.Pieces.{begunBlock, pieceWork, xorPiece, keptAfter}
 use Rattle.keystream.proofs.Laws.{stream-work, xorStream-append, xorPiece-own, keptAfter-own}
@@ -57,7 +57,7 @@ pub begun-none : (E : List ℕ → List ℕ) (v : List ℕ) (n : ℕ) → (not (
 unfolding begunBlock allZero
 begun-none E v n = go (eqb (n % 16) 0)
   where
-    go : (t : Bool) → (not t || allZero (cond t (replicate 16 0) (E (plus (clear v) (n / 16))))) ≡ true
+    go : (t : Bool) → (not t || allZero (cond t (replicate 16 0) (E (counterBlock (initialCounter v) (n / 16))))) ≡ true
     go true = refl
     go false = refl
 

@@ -134,14 +134,14 @@ one-key-from-c key header input output scratch ad nonce = go (isKeyLength (lengt
 
 -- ---- the third demand
 
-module _ (keyLength slots : ℕ) (ring bytes lens y output scratch : List ℕ) (r : IsRing keyLength slots ring) (few : length lens ≤ 126) (listed : total lens ≡ length bytes)
-    (roomy : length y - 16 ≤ length output) (scratchy : scratchNeed (length y - 16) ≤ length scratch) where
+module _ (keyLength slots : ℕ) (ring bytes lens y output scratch : List ℕ) (r : IsRing keyLength slots ring) (countFits : length lens ≤ 126) (sums : total lens ≡ length bytes)
+    (outputFits : length y - 16 ≤ length output) (scratchFits : scratchNeed (length y - 16) ≤ length scratch) where
   admits : (i : ℕ) → i < slots → Admits (slotKey keyLength ring i) bytes lens
-  admits i h = record { keyed = slot-keyed keyLength slots ring i (r .keyed) (r .whole) h; few = few; listed = listed }
+  admits i h = record { keyed = slot-keyed keyLength slots ring i (r .keyed) (r .whole) h; countFits = countFits; sums = sums }
 
   -- the third demand for each slot's key
   by-key : (i : ℕ) → i < slots → ThirdWhole (slotKey keyLength ring i) bytes lens y output scratch
-  by-key i h = accepts-the-sealed (slotKey keyLength ring i) bytes lens y output scratch (admits i h) roomy scratchy
+  by-key i h = accepts-the-sealed (slotKey keyLength ring i) bytes lens y output scratch (admits i h) outputFits scratchFits
 
   opens-sealed : (i : ℕ) (P : List ℕ) → SealsUnder keyLength slots ring bytes lens y i P → Opens keyLength slots ring bytes lens y output scratch i
   opens-sealed i P (h, p) = (h, ap (λ (o : Outcome). o .number) (by-key i h .accepted P p .0))
@@ -175,7 +175,7 @@ module _ (keyLength slots : ℕ) (ring bytes lens y output scratch : List ℕ) (
         → triedWork (opensAt keyLength ring bytes lens y output scratch) (workAt keyLength ring bytes lens y output scratch) 0 n
         ≡ cond (opensAt keyLength ring bytes lens y output scratch s) (s + 1) n * blockWork lens (length y - 16))
         (is .1)
-        (λ c. ring-work keyLength ring bytes lens y output scratch (simp (r .keyed, is .0)) c (judged (slotKey keyLength ring s) bytes lens y output scratch (admits s within) roomy scratchy tagged limited))
+        (λ c. ring-work keyLength ring bytes lens y output scratch (simp (r .keyed, is .0)) c (judged (slotKey keyLength ring s) bytes lens y output scratch (admits s within) outputFits scratchFits tagged limited))
         g
       where
         is : (isRing keyLength (length ring) ≡ true) × (slotCount keyLength (length ring) ≡ slots)
@@ -215,7 +215,7 @@ opens-by-the-smallest-slot =
       oneKey = one-key;
       fromC = from-c;
       oneKeyFromC = one-key-from-c;
-      third = λ keyLength slots ring bytes lens y output scratch r few listed roomy scratchy.
+      third = λ keyLength slots ring bytes lens y output scratch r countFits sums outputFits scratchFits.
           by-given keyLength slots ring bytes lens y output scratch r (ThirdRing keyLength slots ring bytes lens y output)
-          (third-ring keyLength slots ring bytes lens y output scratch r few listed roomy scratchy);
+          (third-ring keyLength slots ring bytes lens y output scratch r countFits sums outputFits scratchFits);
     }

@@ -17,7 +17,7 @@ use Rattle.header.specs.Header.{strings}
 use Rattle.header.specs.Blocks.{sixteenths, blocksOf}
 use Rattle.keystream.specs.KeyStream.{xorStream}
 use Rattle.keystream.specs.Pieces.{begunBlock, pieceWork}
-use Rattle.answers.specs.Answer.{first, success, numberAlone, forged}
+use Rattle.answers.specs.Answer.{first, success, refusal, forged}
 use Rattle.answers.proofs.Laws.{none-where}
 use Rattle.whole.specs.Calls.{limit, scratchNeed}
 use Rattle.whole.specs.Siv.{ctrKey, tagOf, streamed, opened, genuine}
@@ -101,7 +101,7 @@ module _ (key bytes lens shared : List ℕ) (a : Admits key bytes lens) where
 
   -- the model's refusal, and what it says of success and of 8
   abbrev pub refusedAfter : Begin → ModelState → Call → ℕ → After
-  refusedAfter begin b c n = record { model = b; entry = record { outcome = numberAlone n; output = outputBefore key bytes lens begin shared b c } }
+  refusedAfter begin b c n = record { model = b; entry = record { outcome = refusal n; output = outputBefore key bytes lens begin shared b c } }
 
   abbrev pub doneAfter : Begin → ModelState → Call → ℕ → After
   doneAfter begin b c n =
@@ -144,7 +144,7 @@ module _ (key bytes lens shared : List ℕ) (a : Admits key bytes lens) where
   wrong : (begin : Begin) (b : ModelState) (s : Stream) (o : List ℕ) (c : Call) → Known key bytes lens shared begin b s o → eqb (b .stage) (wants c) ≡ false → Steps begin b s o c
   wrong begin b s o c k e =
       steps begin b s o c (refusedStep 9 s (lent o c)) (refusedAfter begin b c 9) (call-misfit s o c (misfit (wants c) s (ap (λ (n : ℕ). eqb n (wants c)) (known-stage begin b s o k) ∙ e))) (model-wrong begin b c e)
-      (ap (λ (l : List ℕ). record { outcome = numberAlone 9; output = l }) (lent-before begin b o c (known-shown begin b s o k)))
+      (ap (λ (l : List ℕ). record { outcome = refusal 9; output = l }) (lent-before begin b o c (known-shown begin b s o k)))
       (subst (Known key bytes lens shared begin b s) (sym (unchanged o c)) k)
 
   -- ---- the sealer's calls in the stages that they want
@@ -260,7 +260,7 @@ module _ (key bytes lens shared : List ℕ) (a : Admits key bytes lens) where
 
   -- ---- the opener's calls in the stage that they want
 
-  module _ (T A : List ℕ) (tagged : length T ≡ 16) (within : length A ≤ limit) (roomy : length A ≤ length shared) where
+  module _ (T A : List ℕ) (tagged : length T ≡ 16) (within : length A ≤ limit) (outputFits : length A ≤ length shared) where
     P : List ℕ
     P = streamed key T A
 
@@ -343,10 +343,10 @@ module _ (key bytes lens shared : List ℕ) (a : Admits key bytes lens) where
             → Steps (opener T) (modelOf 3 A []) (feedingState key (strings bytes lens) T (streamed key T A)) (put shared 0 (streamed key T A)) (feed piece)
         go true e u f =
             steps (opener T) bF SF o (feed piece) (refusedStep 4 SF o) (refusedAfter (opener T) bF (feed piece) 4) (settled 4 (simp e)) (simp (total, e)) refl
-            (feeding T A tagged within roomy)
+            (feeding T A tagged within outputFits)
         go false e true f =
             steps (opener T) bF SF o (feed piece) (refusedStep 6 SF o) (refusedAfter (opener T) bF (feed piece) 6) (settled 6 (simp (e, f))) (simp (total, e, f)) refl
-            (feeding T A tagged within roomy)
+            (feeding T A tagged within outputFits)
         go false e false f =
             steps (opener T) bF SF o (feed piece)
             (doneStep (length piece) (workAfter key bytes lens (opener T) shared bF (feed piece)) (feedingState key ss T (streamed key T (A ++ piece))) (put shared 0 (streamed key T (A ++ piece))))

@@ -16,7 +16,7 @@ use Rattle.cmac.specs.Cmac.{zeros}
 use Rattle.header.specs.Header.{strings}
 use Rattle.header.specs.Blocks.{blocksOfAll}
 use Rattle.keystream.specs.KeyStream.{xorStream}
-use Rattle.answers.specs.Answer.{Outcome, success, numberAlone}
+use Rattle.answers.specs.Answer.{Outcome, success, refusal}
 use Rattle.answers.proofs.Laws.{first-pass}
 use Rattle.whole.specs.Calls.{limit, scratchNeed, headerRows, openCall}
 use Rattle.whole.specs.Siv.{ctrKey, tagOf, streamed, sealed, opened, genuine}
@@ -65,7 +65,7 @@ module _ (key bytes lens : List ℕ) (a : Admits key bytes lens) where
   unfolding beginSealer
   sealer-begins start =
       from start sealer (addingState key (strings bytes lens) [])
-      (ap₂ (λ (n w : ℕ). beginBy n w (headOf key (strings bytes lens)) 1 zeros) (admitted key bytes lens a) (head-lengths bytes lens (omega (arith, a .listed)))
+      (ap₂ (λ (n w : ℕ). beginBy n w (headOf key (strings bytes lens)) 1 zeros) (admitted key bytes lens a) (head-lengths bytes lens (omega (arith, a .sums)))
       ∙ ap (λ (s : Stream). doneStep 0 (2 + blocksOfAll lens) s []) (begin-state key (strings bytes lens) 1 zeros))
 
   opener-begins : (start : Start) (T : List ℕ) → length T ≡ 16 → begun key bytes lens start (opener T) ≡ doneStep 0 (beginWork lens start) (feedingState key (strings bytes lens) T []) []
@@ -75,7 +75,7 @@ module _ (key bytes lens : List ℕ) (a : Admits key bytes lens) where
       (ap₂ (λ (n w : ℕ). beginBy n w (headOf key (strings bytes lens)) 3 T)
       (first-pass (headerRows (length key) lens (length bytes)) (tagRows (length T)) refl (admitted key bytes lens a)
       ∙ ap (λ (b : Bool). cond (not b) 5 0) (eq-eqb (length T) 16 t))
-      (head-lengths bytes lens (omega (arith, a .listed)))
+      (head-lengths bytes lens (omega (arith, a .sums)))
       ∙ ap (λ (s : Stream). doneStep 0 (2 + blocksOfAll lens) s [])
       (begin-state key (strings bytes lens) 3 T ∙ ap (λ (k : List ℕ). stateOf key (strings bytes lens) 3 T k 0 []) (sym (begun-zero (aes (ctrKey key)) T))))
 
@@ -177,7 +177,7 @@ module _ (key bytes lens : List ℕ) (a : Admits key bytes lens) where
         gave-by b c (refusedAfter key bytes lens shared a sealer b c n) e
         (ap (λ (l : List ℕ). soFar b ++ l) (none c (outputBefore key bytes lens sealer shared b c)) ∙ append-nil (soFar b))
       where
-        none : (c : Call) (l : List ℕ) → gaveBy c (record { outcome = numberAlone n; output = l }) ≡ []
+        none : (c : Call) (l : List ℕ) → gaveBy c (record { outcome = refusal n; output = l }) ≡ []
         none (add piece) l = refl
         none (turn output) l = refl
         none (write piece output) l = refl
@@ -347,8 +347,8 @@ module _ (key bytes lens : List ℕ) (a : Admits key bytes lens) where
       limits begin b s o (finished T A _ x) e = absurd (omega (arith, e))
 
       -- finish, as the model has it, against whole opening of the tag and all that was fed
-      module _ (b : ModelState) (at : b .stage ≡ 3) (within : length (b .A) ≤ limit) (roomy : length (b .A) ≤ length shared) (output scratch : List ℕ)
-          (large : length (b .A) ≤ length output) (scratchy : scratchNeed (length (b .A)) ≤ length scratch) where
+      module _ (b : ModelState) (at : b .stage ≡ 3) (within : length (b .A) ≤ limit) (outputFits : length (b .A) ≤ length shared) (output scratch : List ℕ)
+          (large : length (b .A) ≤ length output) (scratchFits : scratchNeed (length (b .A)) ≤ length scratch) where
         y : List ℕ
         y = T ++ b .A
 
@@ -393,22 +393,22 @@ module _ (key bytes lens : List ℕ) (a : Admits key bytes lens) where
                 ≡ entry (openCall key bytes lens y output scratch .outcome) (take n (openCall key bytes lens y output scratch .output))
             go true g =
                 let gives = open-gives key bytes lens y output scratch passes g in
-                said true (accepts-genuine key bytes lens shared a T (b .A) tagged within roomy ∙ g)
+                said true (accepts-genuine key bytes lens shared a T (b .A) tagged within outputFits ∙ g)
                 ∙ ap₂ entry (sym (gives .0 ∙ ap (λ (k : ℕ). success k (blockWork lens (length y - 16))) count)) (sym (ap (take n) (gives .1) ∙ read-front output (opened key y) n count large))
             go false g =
                 let wipes = open-wipes key bytes lens y output scratch passes g in
                 let zeroed : length y - 16 ≡ n = omega (arith, long) in
-                said false (accepts-genuine key bytes lens shared a T (b .A) tagged within roomy ∙ g)
+                said false (accepts-genuine key bytes lens shared a T (b .A) tagged within outputFits ∙ g)
                 ∙ ap₂ entry (sym (wipes .0))
                 (sym (ap (take n) (wipes .1 ∙ ap (λ (k : ℕ). put output 0 (replicate k 0)) zeroed) ∙ read-front output (replicate n 0) n (length-replicate {A = ℕ} n 0) large))
 
       as-opened : (start : Start) (calls : List Call) (output scratch : List ℕ) → noFinish calls ≡ true → length (fed key bytes lens T shared calls) ≤ length output
           → scratchNeed (length (fed key bytes lens T shared calls)) ≤ length scratch → AsOpened key bytes lens T shared calls output scratch start
-      as-opened start calls output scratch none large scratchy =
+      as-opened start calls output scratch none large scratchFits =
           let r = runs (opener T) calls (fresh (opener T)) (begun key bytes lens start (opener T) .state) shared (opener-known start T tagged) in
           let at = stays-run calls (fresh (opener T)) refl none in
           let lim = limits (opener T) _ _ _ (r .1) at in
-          let whole = step key bytes lens shared a (opener T) _ _ _ finish (r .1) .entry ∙ agrees (modelRun key bytes lens (opener T) shared (fresh (opener T)) calls .model) at (lim .0) (lim .1) output scratch large scratchy in
+          let whole = step key bytes lens shared a (opener T) _ _ _ finish (r .1) .entry ∙ agrees (modelRun key bytes lens (opener T) shared (fresh (opener T)) calls .model) at (lim .0) (lim .1) output scratch large scratchFits in
           record { number = ap (λ (e : Entry). e .outcome .number) whole; count = ap (λ (e : Entry). e .outcome .count) whole; plaintext = ap (λ (e : Entry). e .output) whole }
 
 pub accepts-the-sealed-and-follows-the-model : ThirdDemand

@@ -21,24 +21,24 @@ use Rattle.demands.proofs.Siv.{length-sealed, opened-sealed, genuine-se
 
 -- ---- sealing
 
-module _ (key bytes lens p output scratch : List ℕ) (a : Admits key bytes lens) (limited : length p ≤ limit) (roomy : length p + 16 ≤ length output)
-    (scratchy : scratchNeed (length p) ≤ length scratch) where
+module _ (key bytes lens p output scratch : List ℕ) (a : Admits key bytes lens) (limited : length p ≤ limit) (outputFits : length p + 16 ≤ length output)
+    (scratchFits : scratchNeed (length p) ≤ length scratch) where
   seal-number : sealNumber key bytes lens p output scratch ≡ 0
   unfolding sealNumber
   seal-number =
       simp (
         a .keyed,
-        le-ltb 126 (length lens) (a .few),
-        eq-eqb (total lens) (length bytes) (a .listed),
+        le-ltb 126 (length lens) (a .countFits),
+        eq-eqb (total lens) (length bytes) (a .sums),
         le-ltb limit (length p) limited,
-        le-ltb (length output) (length p + 16) roomy,
-        le-ltb (length scratch) (scratchNeed (length p)) scratchy,
+        le-ltb (length output) (length p + 16) outputFits,
+        le-ltb (length scratch) (scratchNeed (length p)) scratchFits,
       )
 
   seal-gives : Gives (sealCall key bytes lens p output scratch) (blockWork lens (length p)) output (sealed key (strings bytes lens) p)
   unfolding sealCall
   seal-gives =
-      (simp seal-number (ap₂ success (sym (length-sealed key (strings bytes lens) p)) (sealed-lengths key bytes lens p (omega (arith, a .listed)))), simp seal-number)
+      (simp seal-number (ap₂ success (sym (length-sealed key (strings bytes lens) p)) (sealed-lengths key bytes lens p (omega (arith, a .sums)))), simp seal-number)
 
 -- ---- opening
 
@@ -51,7 +51,7 @@ module _ (key bytes lens y output scratch : List ℕ) where
       go false p = absurd (omega arith)
 
   work : openJudged key bytes lens y output scratch ≡ 0 → genuineWork key (strings bytes lens) y ≡ blockWork lens (length y - 16)
-  work j = genuine-lengths key bytes lens y (omega (arith, open-admits key bytes lens y output scratch j .listed))
+  work j = genuine-lengths key bytes lens y (omega (arith, open-admits key bytes lens y output scratch j .sums))
 
   -- what opening gives where the tag agrees, and where it does not
   pub open-gives : openJudged key bytes lens y output scratch ≡ 0 → genuine key (strings bytes lens) y ≡ true
@@ -68,17 +68,17 @@ module _ (key bytes lens y output scratch : List ℕ) where
       let number : openNumber key bytes lens y output scratch ≡ 8 = by-tag key bytes lens y output scratch j ∙ ap (λ (b : Bool). cond (not b) 8 0) g in
       (simp number (ap forged (work j)), simp number)
 
-  module _ (a : Admits key bytes lens) (roomy : length y - 16 ≤ length output) (scratchy : scratchNeed (length y - 16) ≤ length scratch) where
+  module _ (a : Admits key bytes lens) (outputFits : length y - 16 ≤ length output) (scratchFits : scratchNeed (length y - 16) ≤ length scratch) where
     pub judged : 16 ≤ length y → length y ≤ limit + 16 → openJudged key bytes lens y output scratch ≡ 0
     judged tagged limited =
         simp (
           a .keyed,
-          le-ltb 126 (length lens) (a .few),
-          eq-eqb (total lens) (length bytes) (a .listed),
+          le-ltb 126 (length lens) (a .countFits),
+          eq-eqb (total lens) (length bytes) (a .sums),
           le-ltb (length y) 16 tagged,
           le-ltb (limit + 16) (length y) limited,
-          le-ltb (length output) (length y - 16) roomy,
-          le-ltb (length scratch) (scratchNeed (length y - 16)) scratchy,
+          le-ltb (length output) (length y - 16) outputFits,
+          le-ltb (length scratch) (scratchNeed (length y - 16)) scratchFits,
         )
 
     -- what a genuine string opens to seals to it
@@ -129,13 +129,13 @@ module _ (key bytes lens y output scratch : List ℕ) where
 
 pub accepts-the-sealed : (key bytes lens y output scratch : List ℕ) → Admits key bytes lens → length y - 16 ≤ length output → scratchNeed (length y - 16) ≤ length scratch
     → ThirdWhole key bytes lens y output scratch
-accepts-the-sealed key bytes lens y output scratch a roomy scratchy =
+accepts-the-sealed key bytes lens y output scratch a outputFits scratchFits =
     record {
-      accepts = whole-accepts key bytes lens y output scratch a roomy scratchy;
-      accepted = whole-accepted key bytes lens y output scratch a roomy scratchy;
+      accepts = whole-accepts key bytes lens y output scratch a outputFits scratchFits;
+      accepted = whole-accepted key bytes lens y output scratch a outputFits scratchFits;
       unique = λ P Q p q. sym (opened-sealed key (strings bytes lens) P) ∙ ap (opened key) (p .1 ∙ sym (q .1)) ∙ opened-sealed key (strings bytes lens) Q;
-      refuses = whole-refuses key bytes lens y output scratch a roomy scratchy;
-      wipes = whole-wipes key bytes lens y output scratch a roomy scratchy;
+      refuses = whole-refuses key bytes lens y output scratch a outputFits scratchFits;
+      wipes = whole-wipes key bytes lens y output scratch a outputFits scratchFits;
     }
 
 pub seals-and-reopens : Second

@@ -21,7 +21,7 @@ use Rattle.s2v.specs.S2v.{tailLength}
 use Rattle.keystream.specs.KeyStream.{xorStream}
 use Rattle.keystream.specs.Pieces.{noBlock, begunBlock, leftOver, pieceWork, xorPiece, keptAfter}
 use Rattle.keystream.proofs.Laws.{xorPiece-within, xorPiece-beyond, keptAfter-within, keptAfter-beyond}
-use Rattle.answers.specs.Answer.{Outcome, Row, row, first, success, numberAlone}
+use Rattle.answers.specs.Answer.{Outcome, Row, row, first, success, refusal}
 use Rattle.answers.proofs.Laws.{lacks, first-not, first-none, not-due}
 use Rattle.whole.specs.Calls.{CallResult, refusedCall, isKeyLength, limit, sealTable, sealNumber, sealCall, openNumber, openCall}
 use Rattle.whole.specs.Ring.{ringRows, slotCount, slotKey, RingResult}
@@ -51,7 +51,7 @@ use Rattle.demands.proofs.Third.{runs, sealer-known, opener-known, acce
 -- where no length is refused, the plan is the sum
 planned : (lens : List ℕ) (n : ℕ) → length lens ≤ 126 → n ≤ limit → blockWork lens n ≡ plannedWork lens n
 unfolding plannedWork
-planned lens n few within = simp (le-ltb 126 (length lens) few, le-ltb limit n within)
+planned lens n countFits within = simp (le-ltb 126 (length lens) countFits, le-ltb limit n within)
 
 module _ (key bytes lens input output scratch : List ℕ) where
   seals : Reported (sealCall key bytes lens input output scratch) (plannedWork lens (length input))
@@ -60,7 +60,7 @@ module _ (key bytes lens input output scratch : List ℕ) where
       record {
         done = λ e.
             let admitted = seal-admits key bytes lens input output scratch e in
-            ap (λ (o : Outcome). o .work) (answers-or-first-refusal .sealing key bytes lens input output scratch .done e .0) ∙ planned lens (length input) (admitted .few) (admitted .limited);
+            ap (λ (o : Outcome). o .work) (answers-or-first-refusal .sealing key bytes lens input output scratch .done e .0) ∙ planned lens (length input) (admitted .countFits) (admitted .limited);
         forged = λ e. absurd (first-not 8 (sealTable key bytes lens input output scratch) refl (λ z. omega (arith, z)) e);
       }
 
@@ -75,7 +75,7 @@ module _ (key bytes lens input output scratch : List ℕ) where
   open-planned : openJudged key bytes lens input output scratch ≡ 0 → blockWork lens (length input - 16) ≡ plannedWork lens (length input - 16)
   open-planned z =
       let admitted = open-admits key bytes lens input output scratch z in
-      planned lens (length input - 16) (admitted .few) (omega (arith, admitted .limited))
+      planned lens (length input - 16) (admitted .countFits) (omega (arith, admitted .limited))
 
   opens : Reported (openCall key bytes lens input output scratch) (plannedWork lens (length input - 16))
   unfolding openCall
@@ -126,7 +126,7 @@ module _ (keyLength : ℕ) (ring bytes lens input output scratch : List ℕ) (be
       as-planned : openJudged (slotKey keyLength ring s) bytes lens input output scratch ≡ 0 → blockWork lens (length input - 16) ≡ plan
       as-planned e =
           let admitted = open-admits (slotKey keyLength ring s) bytes lens input output scratch e in
-          planned lens (length input - 16) (admitted .few) (omega (arith, admitted .limited)) ∙ p z
+          planned lens (length input - 16) (admitted .countFits) (omega (arith, admitted .limited)) ∙ p z
 
 ring-from-c : (keyLength : ℕ) (ring header input output scratch : List ℕ) (ad nonce : ℕ)
     → ReportedRing (slotCount keyLength (length ring)) (openRingFromC keyLength ring header ad nonce input output scratch) (plannedFromC ad nonce (length input - 16))
@@ -331,17 +331,17 @@ unfolding fits keptFits
 any-fits wanted s kept begun = simp (ne-eqb (streamPlace wanted s % 16) 0 begun) refl
 
 -- what a call answers goes by its number
-by-number : (n m w : ℕ) (next s : Stream) (last o : List ℕ) → settle n (doneStep m w next last) s o .outcome ≡ cond (eqb n 0) (success m w) (numberAlone n)
+by-number : (n m w : ℕ) (next s : Stream) (last o : List ℕ) → settle n (doneStep m w next last) s o .outcome ≡ cond (eqb n 0) (success m w) (refusal n)
 by-number n m w next s last o = go (eqb n 0)
   where
-    go : (b : Bool) → cond b (doneStep m w next last) (refusedStep n s o) .outcome ≡ cond b (success m w) (numberAlone n)
+    go : (b : Bool) → cond b (doneStep m w next last) (refusedStep n s o) .outcome ≡ cond b (success m w) (refusal n)
     go true = refl
     go false = refl
 
 same-answer : (n n′ m w : ℕ) (next next′ s s′ : Stream) (last last′ o : List ℕ) → n ≡ n′
     → settle n (doneStep m w next last) s o .outcome ≡ settle n′ (doneStep m w next′ last′) s′ o .outcome
 same-answer n n′ m w next next′ s s′ last last′ o e =
-    by-number n m w next s last o ∙ ap (λ (k : ℕ). cond (eqb k 0) (success m w) (numberAlone k)) e ∙ sym (by-number n′ m w next′ s′ last′ o)
+    by-number n m w next s last o ∙ ap (λ (k : ℕ). cond (eqb k 0) (success m w) (refusal k)) e ∙ sym (by-number n′ m w next′ s′ last′ o)
 
 module _ (s : Stream) (kept shared : List ℕ) where
   -- the state with another kept block

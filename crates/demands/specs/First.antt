@@ -12,8 +12,8 @@ use Rattle.cmac.specs.Cmac.{zeros}
 use Rattle.header.specs.Header.{total, strings}
 use Rattle.header.specs.Blocks.{sixteenths, blocksOfAll}
 use Rattle.answers.specs.declared.Answer.{Answer}
-use Rattle.answers.specs.Answer.{Outcome, success, numberAlone, forged, Row, row, outcomeOf}
-use Rattle.dearest.specs.Dearest.{planRows, Dearest, GivesDearest}
+use Rattle.answers.specs.Answer.{Outcome, success, refusal, forged, Row, row, outcomeOf}
+use Rattle.worst_header.specs.WorstHeader.{planRows, IsWorst, GivesWorst}
 use Rattle.whole.specs.Calls.{CallResult, scratchNeed, headerRows, openRows, sealTable, sealCall, openTable, openCall}
 use Rattle.whole.specs.Ring.{slotCount, slotKey, ringRows, RingResult, openRing}
 use Rattle.whole.specs.Siv.{sealed, opened, genuine}
@@ -23,7 +23,7 @@ use Rattle.head.specs.Head.{zeroHead, headOf, extended, MakeResult, madeHead, m
 use Rattle.stream.specs.declared.Stream.{Stream}
 use Rattle.stream.specs.State.{ended, start, added, tagOfState, tagOfStateWork, streamedAt}
 use Rattle.stream.specs.Steps.{StepResult, doneStep, refusedStep, tagRows, beginSealer, beginOpener, beginSealerFrom, beginOpenerFrom, addRows, addStep, turnRows, turned, turnStep, writeRows, wrote, writeStep, closeRows, closeStep, feedRows, deciphered, feedStep, finishTable, forgedStep, finishStep}
-use Rattle.kinphlor.specs.Interface.{aeadLens, packed, sealFromC, openFromC, packedRing, openRingFromC, GivesDearestFromC}
+use Rattle.kinphlor.specs.Interface.{aeadLens, packed, sealFromC, openFromC, packedRing, openRingFromC, GivesWorstFromC}
 use Rattle.demands.specs.Model.{chained}
 
 -- document 01's order of refusals, with document 02's 11 straight after 1; 12 is alone in its table, so its place says nothing
@@ -59,7 +59,7 @@ module _ (key bytes lens input output scratch : List ℕ) where
         → Leaves (sealCall key bytes lens input output scratch) (success (length input + 16) (blockWork lens (length input)))
         (put output 0 (sealed key (strings bytes lens) input)) (cleared (length input))
     pub refused : (n : ℕ) → sealCall key bytes lens input output scratch .outcome .number ≡ n → (n ≡ 0 → ⊥)
-        → Leaves (sealCall key bytes lens input output scratch) (numberAlone n) output scratch
+        → Leaves (sealCall key bytes lens input output scratch) (refusal n) output scratch
 
   pub record FirstOpen : Type 0 where
     pub ordered : keeps order (openTable key bytes lens input output scratch) ≡ true
@@ -71,7 +71,7 @@ module _ (key bytes lens input output scratch : List ℕ) where
         → Leaves (openCall key bytes lens input output scratch) (forged (blockWork lens (length input - 16)))
         (put output 0 (replicate (length input - 16) 0)) (cleared (length input - 16))
     pub refused : (n : ℕ) → openCall key bytes lens input output scratch .outcome .number ≡ n → (n ≡ 0 → ⊥) → (n ≡ 8 → ⊥)
-        → Leaves (openCall key bytes lens input output scratch) (numberAlone n) output scratch
+        → Leaves (openCall key bytes lens input output scratch) (refusal n) output scratch
 
 -- ---- the C interface
 
@@ -84,7 +84,7 @@ rowsFromC nonce (r ∷ rs) = r ∷ row 10 (eqb nonce 0) ∷ rs
 pub record FirstFromC (table : List Row) (nonce : ℕ) (output scratch : List ℕ) (call result : CallResult) : Type 0 where
   pub ordered : keeps order (rowsFromC nonce table) ≡ true
   pub first : FirstDue (rowsFromC nonce table) (result .outcome .number)
-  pub empty : result .outcome .number ≡ 10 → Leaves result (numberAlone 10) output scratch
+  pub empty : result .outcome .number ≡ 10 → Leaves result (refusal 10) output scratch
   pub otherwise : (result .outcome .number ≡ 10 → ⊥) → result ≡ call
 
 -- ---- a ring of keys
@@ -118,18 +118,18 @@ module _ (keyLength : ℕ) (ring bytes lens input output scratch : List ℕ) whe
         → Leaves (result .call) (success (length input - 16) (triedKeys (result .slot + 1))) (put output 0 (opened (slotKey keyLength ring (result .slot)) input)) scratchCleared
     pub forged : result .call .outcome .number ≡ 8
         → Leaves (result .call) (forged (triedKeys (slotCount keyLength (length ring)))) (put output 0 (replicate (length input - 16) 0)) scratchCleared
-    pub refused : (n : ℕ) → result .call .outcome .number ≡ n → (n ≡ 0 → ⊥) → (n ≡ 8 → ⊥) → Leaves (result .call) (numberAlone n) output scratch
+    pub refused : (n : ℕ) → result .call .outcome .number ≡ n → (n ≡ 0 → ⊥) → (n ≡ 8 → ⊥) → Leaves (result .call) (refusal n) output scratch
     pub slotless : (result .call .outcome .number ≡ 0 → ⊥) → result .slot ≡ 0
 
--- ---- the dearest header list
+-- ---- the worst header list
 
 -- the call by its table: the places past k are zero, and with a refusal all of them and the blocks
-pub record FirstDearest (h k least : ℕ) (outcome : Outcome) (places : List ℕ) (blocks : ℕ) : Type 0 where
+pub record FirstWorst (h k least : ℕ) (outcome : Outcome) (places : List ℕ) (blocks : ℕ) : Type 0 where
   pub ordered : keeps order (planRows h k least) ≡ true
   pub first : FirstDue (planRows h k least) (outcome .number)
-  pub done : outcome .number ≡ 0 → (outcome ≡ success 0 0) × Dearest h k least places blocks
+  pub done : outcome .number ≡ 0 → (outcome ≡ success 0 0) × IsWorst h k least places blocks
   pub past : outcome .number ≡ 0 → drop k places ≡ replicate (126 - k) 0
-  pub refused : (n : ℕ) → outcome .number ≡ n → (n ≡ 0 → ⊥) → (outcome ≡ numberAlone n) × (places ≡ replicate 126 0) × (blocks ≡ 0)
+  pub refused : (n : ℕ) → outcome .number ≡ n → (n ≡ 0 → ⊥) → (outcome ≡ refusal n) × (places ≡ replicate 126 0) × (blocks ≡ 0)
 
 -- ---- the number that C gets
 
@@ -151,7 +151,7 @@ pub record FirstHead (table : List Row) (result : MakeResult) (work : ℕ) (comp
   pub ordered : keeps order table ≡ true
   pub first : FirstDue table (result .outcome .number)
   pub done : result .outcome .number ≡ 0 → result ≡ madeHead work complete
-  pub refused : (n : ℕ) → result .outcome .number ≡ n → (n ≡ 0 → ⊥) → result ≡ record { outcome = numberAlone n; head = zeroHead }
+  pub refused : (n : ℕ) → result .outcome .number ≡ n → (n ≡ 0 → ⊥) → result ≡ record { outcome = refusal n; head = zeroHead }
 
 -- ---- piecewise calls
 
@@ -196,10 +196,10 @@ pub record First : Type 0 where
   pub openingRingParts : (keyLength : ℕ) (ring header input output scratch : List ℕ) (ad nonce : ℕ)
       → let r = openRingFromC keyLength ring header ad nonce input output scratch in
       Parts (packedRing (r .slot) (r .call .outcome)) (r .call .outcome .number) (r .slot) (r .call .outcome .count)
-  pub findingDearest : (h k least : ℕ) (outcome : Outcome) (places : List ℕ) (blocks : ℕ) → GivesDearest h k least outcome places blocks
-      → FirstDearest h k least outcome places blocks
-  pub findingDearestFromC : (h k least : ℕ) (places : List ℕ) (given : ℕ) → GivesDearestFromC h k least places given
-      → FirstDearest h k least (numberAlone (given / 4294967296)) places (given % 4294967296)
+  pub findingWorst : (h k least : ℕ) (outcome : Outcome) (places : List ℕ) (blocks : ℕ) → GivesWorst h k least outcome places blocks
+      → FirstWorst h k least outcome places blocks
+  pub findingWorstFromC : (h k least : ℕ) (places : List ℕ) (given : ℕ) → GivesWorstFromC h k least places given
+      → FirstWorst h k least (refusal (given / 4294967296)) places (given % 4294967296)
   pub makingHead : (key bytes lens : List ℕ)
       → FirstHead (headerRows (length key) lens (length bytes)) (makeHead key bytes lens) (2 + blocksOfAll lens) (headOf key (strings bytes lens))
   pub extendingHead : (h : Head) (bytes lens : List ℕ)

@@ -8,4 +8,4 @@ pub mod Model
 pub mod Third
 pub mod Tail
 pub mod Work
-pub mod Dearest
+pub mod WorstHeader

@@ -8,7 +8,7 @@ use lib.ListN.{length, drop, replicate}
 use Rattle.octets.specs.Octets.{put}
 use Rattle.header.specs.Header.{strings}
 use Rattle.header.specs.Blocks.{sixteenths, blocksOf}
-use Rattle.answers.specs.Answer.{Row, row, first, numberAlone}
+use Rattle.answers.specs.Answer.{Row, row, first, refusal}
 use Rattle.whole.specs.Calls.{limit, scratchNeed, openNumber}
 use Rattle.whole.specs.Siv.{tagOf, streamed, opened}
 use Rattle.demands.specs.Run.{Begin, sealer, opener, Call, add, turn, write, close, feed, finish, Entry}
@@ -143,7 +143,7 @@ module _ (key bytes lens : List ℕ) where
           model = modelAfter b c;
           entry = record { outcome = record { number = n; count = cond (eqb n 0) (countAfter b c) 0; work = workAfter b c }; output = outputAfter b c };
         })
-        (record { model = b; entry = record { outcome = numberAlone n; output = outputBefore b c } })
+        (record { model = b; entry = record { outcome = refusal n; output = outputBefore b c } })
 
     abbrev pub modelRun : ModelState → List Call → ModelRun
     modelRun b [] = record { entries = []; model = b }

@@ -15,8 +15,8 @@ use Rattle.whole.specs.Work.{blockWork}
 -- a key and a header list that document 01 admits
 pub record Admits (key bytes lens : List ℕ) : Type 0 where
   pub keyed : isKeyLength (length key) ≡ true
-  pub few : length lens ≤ 126
-  pub listed : total lens ≡ length bytes
+  pub countFits : length lens ≤ 126
+  pub sums : total lens ≡ length bytes
 
 -- a call succeeded, with the work that slip 5 of document 02 says, and put s, and nothing else, to the front of the output
 abbrev pub Gives : CallResult → ℕ → List ℕ → List ℕ → Type 0

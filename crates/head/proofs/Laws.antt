@@ -22,7 +22,7 @@ use Rattle.header.proofs.Laws.{length-strings}
 use Rattle.s2v.specs.S2v.{absorbStrings, absorbWork, headerResult}
 use Rattle.s2v.proofs.Laws.{absorb-append}
 use Rattle.answers.specs.declared.Answer.{Answer}
-use Rattle.answers.specs.Answer.{Outcome, first, outcomeOf, numberAlone}
+use Rattle.answers.specs.Answer.{Outcome, first, outcomeOf, refusal}
 use Rattle.answers.proofs.Laws.{not-due}
 use Rattle.whole.specs.Siv.{macKey, ctrKey}
 use Rattle.whole.proofs.Lengths.{absorb-lengths, header-lengths}
@@ -109,18 +109,18 @@ extended-head key a b =
 -- what a head that fits may be relied on for
 pub record Fit (h : Head) : Type 0 where
   pub width : h .width ≤ 32
-  pub few : h .count ≤ 126
+  pub countFits : h .count ≤ 126
 
 pub fit : (h : Head) → fitsHead h ≡ true → Fit h
 unfolding fitsHead
 fit h e =
     let a = and-eq-true-iff (isWidth (h .width)) (not (ltb 126 (h .count))) .0 e in
-    record { width = width (h .width) (a .0) .high; few = ltb-false 126 (h .count) (not-true (ltb 126 (h .count)) (a .1)) }
+    record { width = width (h .width) (a .0) .high; countFits = ltb-false 126 (h .count) (not-true (ltb 126 (h .count)) (a .1)) }
 
 pub record RestAdmits (h : Head) (lens : List ℕ) (restLength : ℕ) : Type 0 where
   pub width : h .width ≤ 32
-  pub few : h .count + length lens ≤ 126
-  pub listed : total lens ≡ restLength
+  pub countFits : h .count + length lens ≤ 126
+  pub sums : total lens ≡ restLength
 
 pub rest-admits : (h : Head) (lens : List ℕ) (restLength : ℕ) → first (restRows h lens restLength) ≡ 0 → RestAdmits h lens restLength
 rest-admits h lens restLength e =
@@ -129,8 +129,8 @@ rest-admits h lens restLength e =
     let c = not-due (not (eqb (total lens) restLength)) 2 0 (b .1) in
     record {
       width = fit h (not-false (fitsHead h) (a .0)) .width;
-      few = ltb-false 126 (h .count + length lens) (b .0);
-      listed = eqb-true (total lens) restLength (not-false (eqb (total lens) restLength) (c .0));
+      countFits = ltb-false 126 (h .count + length lens) (b .0);
+      sums = eqb-true (total lens) restLength (not-false (eqb (total lens) restLength) (c .0));
     }
 
 -- ---- the calls' results
@@ -139,10 +139,10 @@ module _ (n w : ℕ) (h : Head) where
   pub settle-made : n ≡ 0 → settleHead n w h ≡ madeHead w h
   settle-made e = simp (eq-eqb n 0 e)
 
-  pub settle-refused : (n ≡ 0 → ⊥) → settleHead n w h ≡ record { outcome = numberAlone n; head = zeroHead }
+  pub settle-refused : (n ≡ 0 → ⊥) → settleHead n w h ≡ record { outcome = refusal n; head = zeroHead }
   settle-refused z = simp (ne-eqb n 0 z)
 
-  pub make-refused : (a : Answer) {made : Made} → (outcomeOf a 0 .number ≡ 0 → ⊥) → outcomeOf a 0 ≡ numberAlone n → DidMake (record { outcome = outcomeOf a 0; head = zeroHead }) made
+  pub make-refused : (a : Answer) {made : Made} → (outcomeOf a 0 .number ≡ 0 → ⊥) → outcomeOf a 0 ≡ refusal n → DidMake (record { outcome = outcomeOf a 0; head = zeroHead }) made
       → DidMake (settleHead n w h) made
   make-refused a {made} k e d =
       subst (λ (r : MakeResult). DidMake r made) (ap (λ (o : Outcome). record { outcome = o; head = zeroHead }) e ∙ sym (settle-refused (λ p. k (ap (λ (o : Outcome). o .number) e ∙ p)))) d

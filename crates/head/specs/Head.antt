@@ -12,7 +12,7 @@ use Rattle.aes.specs.KeyExpansion.{roundKeys}
 use Rattle.cmac.specs.Cmac.{zeros, subkeys, zeroCipher, zeroCipherWork}
 use Rattle.header.specs.Header.{total, strings}
 use Rattle.s2v.specs.S2v.{absorbStrings, absorbWork, headerResult, headerWork}
-use Rattle.answers.specs.Answer.{Outcome, success, numberAlone, outcomeOf, Row, row, first}
+use Rattle.answers.specs.Answer.{Outcome, success, refusal, outcomeOf, Row, row, first}
 use Rattle.whole.specs.Calls.{headerRows}
 use Rattle.whole.specs.Siv.{macKey, ctrKey}
 use Rattle.head.specs.declared.Head.{Head}
@@ -87,7 +87,7 @@ madeHead w h = record { outcome = success 0 w; head = h }
 
 -- the result of a call whose rows give a number: that success, or the refusal with the head all zero
 abbrev pub settleHead : ℕ → ℕ → Head → MakeResult
-settleHead n w h = cond (eqb n 0) (madeHead w h) (record { outcome = numberAlone n; head = zeroHead })
+settleHead n w h = cond (eqb n 0) (madeHead w h) (record { outcome = refusal n; head = zeroHead })
 
 -- make a head from a key and the first strings of a header list
 unfoldable pub makeHead : List ℕ → List ℕ → List ℕ → MakeResult

@@ -16,7 +16,7 @@ use Rattle.keystream.proofs.Laws.{pieceWork-within, pieceWork-beyond, pieceWork
 
 -- n bytes of a piece are xored with what the kept block has for them
 module _ (E : List ℕ → List ℕ) (sized : (b : List ℕ) → length (E b) ≡ 16) (v kept : List ℕ) (long : length kept ≡ 16) (place : ℕ) (text l : List ℕ) (at n : ℕ)
-    (few : n ≡ min (leftOver place) (length text)) where
+    (taken : n ≡ min (leftOver place) (length text)) where
   -- as the code has it: `&piece[..n]` and `&kept[place % 16..]`
   abbrev fromKept : List ℕ
   fromKept = xors (take n text) (take (16 - place % 16) (drop (place % 16) kept))
@@ -49,7 +49,7 @@ module _ (E : List ℕ → List ℕ) (sized : (b : List ℕ) → length (E b) �
     from-new = part-rest text n
 
     used-up : n ≡ leftOver place
-    used-up = omega (arith, few, more)
+    used-up = omega (arith, taken, more)
 
     pub streamed-beyond : at + length text ≤ length l → {wrote last : List ℕ} → wrote ≡ put l at fromKept
         → last ≡ put wrote (at + n) (xorPiece E v noBlock (16 * ((place + n) / 16)) fromNew) → last ≡ put l at (xorPiece E v kept place text)
@@ -61,19 +61,19 @@ module _ (E : List ℕ → List ℕ) (sized : (b : List ℕ) → length (E b) �
         ∙ ap (put wrote (at + n)) (xorPiece-fresh E sized v ((place + n) / 16) fromNew)
         ∙ ap₂ (λ (x : List ℕ) (k : ℕ). put x (at + n) (xorStream E v k fromNew)) w next
         ∙ ap₂ (λ (k : ℕ) (t : List ℕ). put (put l at fromKept) k (xorStream E v (place + n) t)) seam from-new
-        ∙ put-put l at fromKept rest (omega (arith, length-fromKept, few))
+        ∙ put-put l at fromKept rest (omega (arith, length-fromKept, taken))
         ∙ ap (λ (t : List ℕ). put l at (t ++ rest)) from-kept
         ∙ ap (λ (k : ℕ). put l at (xors (take k text) (drop (place % 16) kept) ++ xorStream E v (place + k) (drop k text))) used-up
-        ∙ ap (put l at) (sym (xorPiece-beyond E sized v kept place text long (omega (arith, few, used-up))))
+        ∙ ap (put l at) (sym (xorPiece-beyond E sized v kept place text long (omega (arith, taken, used-up))))
 
     pub kept-beyond : keptAfter E v noBlock (16 * ((place + n) / 16)) (length fromNew) ≡ keptAfter E v kept place (length text)
     kept-beyond =
-        let end : 16 * ((place + n) / 16) + length fromNew ≡ place + length text = omega (arith, used-up, few, ap length from-new, length-drop n text) in
+        let end : 16 * ((place + n) / 16) + length fromNew ≡ place + length text = omega (arith, used-up, taken, ap length from-new, length-drop n text) in
         keptAfter-fresh E sized v ((place + n) / 16) (length fromNew)
         ∙ ap (begunBlock E v) end
-        ∙ sym (keptAfter-beyond E sized v kept place (length text) long (omega (arith, few, used-up)))
+        ∙ sym (keptAfter-beyond E sized v kept place (length text) long (omega (arith, taken, used-up)))
 
     pub work-beyond : pieceWork (16 * ((place + n) / 16)) (length fromNew) ≡ pieceWork place (length text)
     work-beyond =
         let count : length fromNew ≡ length text - leftOver place = omega (arith, used-up, ap length from-new, length-drop n text) in
-        pieceWork-fresh ((place + n) / 16) (length fromNew) ∙ ap keyStreamWork count ∙ sym (pieceWork-beyond place (length text) (omega (arith, few, used-up)))
+        pieceWork-fresh ((place + n) / 16) (length fromNew) ∙ ap keyStreamWork count ∙ sym (pieceWork-beyond place (length text) (omega (arith, taken, used-up)))

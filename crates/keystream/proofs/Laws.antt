@@ -13,7 +13,7 @@ use lib.Seq.{take-all, take-take, take-append-le, drop-drop, drop-at, drop-appen
 use borrow.Author.Tests.{eq-eqb, ne-eqb}
 use Rattle.octets.specs.Octets.{xors}
 use Rattle.octets.proofs.Strings.{length-xors, xors-undo, xors-append, take-xors, drop-take}
-use Rattle.counter.specs.Counter.{clear, plus}
+use Rattle.counter.specs.Counter.{initialCounter, counterBlock}
 use Rattle.keystream.specs.KeyStream.{blocksBegun, streamBlocks, streamWork, keyStream, keyStreamWork, xorStream}
 use Rattle.keystream.specs.Pieces.{noBlock, begunBlock, leftOver, newBlocks, atHand, pieceWork, xorPiece, keptAfter}
 
@@ -45,16 +45,16 @@ unfolding streamBlocks
 streamBlocks-add E v i n zero = ap (streamBlocks E v i) (add-zero n) ∙ sym (append-nil (streamBlocks E v i n))
 streamBlocks-add E v i n (suc m) =
     ap (streamBlocks E v i) (add-suc n m)
-    ∙ ap₂ (λ (l : List ℕ) (k : ℕ). l ++ E (plus (clear v) k)) (streamBlocks-add E v i n m) (sym (add-assoc i n m))
-    ∙ append-assoc (streamBlocks E v i n) (streamBlocks E v (i + n) m) (E (plus (clear v) (i + n + m)))
+    ∙ ap₂ (λ (l : List ℕ) (k : ℕ). l ++ E (counterBlock (initialCounter v) k)) (streamBlocks-add E v i n m) (sym (add-assoc i n m))
+    ∙ append-assoc (streamBlocks E v i n) (streamBlocks E v (i + n) m) (E (counterBlock (initialCounter v) (i + n + m)))
 
 module _ (E : List ℕ → List ℕ) (sized : (b : List ℕ) → length (E b) ≡ 16) (v : List ℕ) where
   length-streamBlocks : (i n : ℕ) → length (streamBlocks E v i n) ≡ 16 * n
   unfolding streamBlocks
   length-streamBlocks i zero = refl
   length-streamBlocks i (suc n) =
-      length-append (streamBlocks E v i n) (E (plus (clear v) (i + n)))
-      ∙ omega (arith, length-streamBlocks i n, sized (plus (clear v) (i + n)))
+      length-append (streamBlocks E v i n) (E (counterBlock (initialCounter v) (i + n)))
+      ∙ omega (arith, length-streamBlocks i n, sized (counterBlock (initialCounter v) (i + n)))
 
   -- the key stream by any number of blocks that is enough
   keyStream-blocks : (n k : ℕ) → n ≤ 16 * k → take n (streamBlocks E v 0 k) ≡ keyStream E v n
@@ -112,10 +112,10 @@ module _ (E : List ℕ → List ℕ) (sized : (b : List ℕ) → length (E b) �
       ∙ ap (λ (m : ℕ). xors s (drop k (streamBlocks E v m n))) from
 
   -- a piece within block i, from its byte k on
-  pub xorStream-block : (i k : ℕ) (s : List ℕ) → k + length s ≤ 16 → xorStream E v (16 * i + k) s ≡ xors s (drop k (E (plus (clear v) i)))
+  pub xorStream-block : (i k : ℕ) (s : List ℕ) → k + length s ≤ 16 → xorStream E v (16 * i + k) s ≡ xors s (drop k (E (counterBlock (initialCounter v) i)))
   unfolding streamBlocks
   xorStream-block i k s h =
-      xorStream-blocks i k 1 s (omega arith) ∙ ap (λ (j : ℕ). xors s (drop k (E (plus (clear v) j)))) (add-zero i)
+      xorStream-blocks i k 1 s (omega arith) ∙ ap (λ (j : ℕ). xors s (drop k (E (counterBlock (initialCounter v) j)))) (add-zero i)
 
 pub length-xorStream : (E : List ℕ → List ℕ) (v : List ℕ) (p : ℕ) (s : List ℕ) → length (xorStream E v p s) ≡ length s
 unfolding xorStream
@@ -160,7 +160,7 @@ pieceWork-fresh i n =
 
 module _ (E : List ℕ → List ℕ) (v : List ℕ) where
   -- n bytes that end within a block begin that one
-  begunBlock-one : (n : ℕ) → (n % 16 ≡ 0 → ⊥) → begunBlock E v n ≡ E (plus (clear v) (n / 16))
+  begunBlock-one : (n : ℕ) → (n % 16 ≡ 0 → ⊥) → begunBlock E v n ≡ E (counterBlock (initialCounter v) (n / 16))
   unfolding begunBlock
   begunBlock-one n e = simp (ne-eqb (n % 16) 0 e)
 
@@ -172,13 +172,13 @@ module _ (E : List ℕ → List ℕ) (v : List ℕ) where
       simp (eq-eqb ((16 * i + n) % 16) 0 end)
 
   -- n bytes from block i on with a short end, which begins block b
-  pub begunBlock-short : (i n : ℕ) {b : List ℕ} → (n % 16 ≡ 0 → ⊥) → b ≡ E (plus (clear v) (i + n / 16)) → b ≡ begunBlock E v (16 * i + n)
+  pub begunBlock-short : (i n : ℕ) {b : List ℕ} → (n % 16 ≡ 0 → ⊥) → b ≡ E (counterBlock (initialCounter v) (i + n / 16)) → b ≡ begunBlock E v (16 * i + n)
   begunBlock-short i n some e =
       let place : i + n / 16 ≡ (16 * i + n) / 16 = omega arith in
-      e ∙ ap (λ (k : ℕ). E (plus (clear v) k)) place ∙ sym (begunBlock-one (16 * i + n) (λ z. some (omega arith)))
+      e ∙ ap (λ (k : ℕ). E (counterBlock (initialCounter v) k)) place ∙ sym (begunBlock-one (16 * i + n) (λ z. some (omega arith)))
 
   -- to keep b where n bytes end within a block is to keep the begun one, if b is that block
-  begunBlock-as : (n : ℕ) (b : List ℕ) → ((n % 16 ≡ 0 → ⊥) → b ≡ E (plus (clear v) (n / 16))) → cond (eqb (n % 16) 0) noBlock b ≡ begunBlock E v n
+  begunBlock-as : (n : ℕ) (b : List ℕ) → ((n % 16 ≡ 0 → ⊥) → b ≡ E (counterBlock (initialCounter v) (n / 16))) → cond (eqb (n % 16) 0) noBlock b ≡ begunBlock E v n
   unfolding begunBlock
   begunBlock-as n b e = go (ℕ-discrete (n % 16) 0)
     where
@@ -214,9 +214,9 @@ module _ (E : List ℕ → List ℕ) (sized : (b : List ℕ) → length (E b) �
   unfolding begunBlock
   length-begunBlock n = go (eqb (n % 16) 0)
     where
-      go : (b : Bool) → length (cond b noBlock (E (plus (clear v) (n / 16)))) ≡ 16
+      go : (b : Bool) → length (cond b noBlock (E (counterBlock (initialCounter v) (n / 16)))) ≡ 16
       go true = refl
-      go false = sized (plus (clear v) (n / 16))
+      go false = sized (counterBlock (initialCounter v) (n / 16))
 
   -- a piece that goes beyond the kept block: what is left of it, then the key stream from the next block on
   pub xorPiece-beyond : (kept : List ℕ) (place : ℕ) (s : List ℕ) → length kept ≡ 16 → leftOver place ≤ length s
@@ -241,7 +241,7 @@ module _ (E : List ℕ → List ℕ) (sized : (b : List ℕ) → length (E b) �
   keptAfter-beyond kept place n long h =
       let i : ℕ = blocksBegun place in
       let m : ℕ = newBlocks place n - 1 in
-      let B : List ℕ = E (plus (clear v) (i + m)) in
+      let B : List ℕ = E (counterBlock (initialCounter v) (i + m)) in
       begunBlock-as E v (place + n) (drop (16 * newBlocks place n) (kept ++ streamBlocks E v i (newBlocks place n)))
       (λ (e : (place + n) % 16 ≡ 0 → ⊥).
       let more : newBlocks place n ≡ suc m = omega (arith, e) in
@@ -249,7 +249,7 @@ module _ (E : List ℕ → List ℕ) (sized : (b : List ℕ) → length (E b) �
       ap (λ (k : ℕ). drop (16 * k) (kept ++ streamBlocks E v i k)) more
       ∙ ap (drop (16 * suc m)) (sym (append-assoc kept (streamBlocks E v i m) B))
       ∙ drop-at (kept ++ streamBlocks E v i m) B (16 * suc m) (length-append kept (streamBlocks E v i m) ∙ omega (arith, length-streamBlocks E sized v i m))
-      ∙ ap (λ (k : ℕ). E (plus (clear v) k)) last)
+      ∙ ap (λ (k : ℕ). E (counterBlock (initialCounter v) k)) last)
 
   -- where no block is kept, a piece from block i on is xored with the key stream, and its end's block is kept
   pub xorPiece-fresh : (i : ℕ) (s : List ℕ) → xorPiece E v noBlock (16 * i) s ≡ xorStream E v (16 * i) s
@@ -300,4 +300,4 @@ module _ (E : List ℕ → List ℕ) (sized : (b : List ℕ) → length (E b) �
           let same : place / 16 ≡ (place + n) / 16 = omega (arith, h) in
           keptAfter-within E v (begunBlock E v place) place n (omega (arith, h))
           ∙ begunBlock-as E v (place + n) (begunBlock E v place)
-          (λ e. begunBlock-one E v place (λ z. omega (arith, h, z)) ∙ ap (λ (k : ℕ). E (plus (clear v) k)) same)
+          (λ e. begunBlock-one E v place (λ z. omega (arith, h, z)) ∙ ap (λ (k : ℕ). E (counterBlock (initialCounter v) k)) same)

@@ -9,7 +9,7 @@ use lib.ListN.{length, take, drop, take-append-drop}
 use lib.Seq.{take-all, take-add, length-take-le}
 use Rattle.octets.specs.Octets.{xors, put}
 use Rattle.octets.proofs.Strings.{put-put, part-to, part-rest}
-use Rattle.counter.specs.Counter.{clear, plus}
+use Rattle.counter.specs.Counter.{initialCounter, counterBlock}
 use Rattle.keystream.specs.KeyStream.{xorStream}
 use Rattle.keystream.proofs.Laws.{length-xorStream, xorStream-append, xorStream-block}
 
@@ -44,7 +44,7 @@ xorStream-all E v l at p s m h e = e ∙ ap (λ (t : List ℕ). put l at (xorStr
 
 module _ (E : List ℕ → List ℕ) (sized : (b : List ℕ) → length (E b) ≡ 16) (v : List ℕ) where
   -- a piece of at most a block, xored with block i
-  pub xorStream-piece : (l : List ℕ) (at i : ℕ) (s : List ℕ) {block next : List ℕ} → length s ≤ 16 → block ≡ E (plus (clear v) i) → next ≡ put l at (xors s block)
+  pub xorStream-piece : (l : List ℕ) (at i : ℕ) (s : List ℕ) {block next : List ℕ} → length s ≤ 16 → block ≡ E (counterBlock (initialCounter v) i) → next ≡ put l at (xors s block)
       → next ≡ put l at (xorStream E v (16 * i) s)
   xorStream-piece l at i s h b e =
       e ∙ ap (put l at) (ap (xors s) b ∙ sym (xorStream-block E sized v i 0 s (omega arith)) ∙ ap (λ (p : ℕ). xorStream E v p s) (add-zero (16 * i)))

@@ -4,7 +4,7 @@ use mathlib.Core.List.{List, [], _++_}
 use Prim.Native.Nat.{ℕ, zero, suc, _+_, _/_}
 use lib.ListN.{length, take, drop}
 use Rattle.octets.specs.Octets.{xors}
-use Rattle.counter.specs.Counter.{clear, plus}
+use Rattle.counter.specs.Counter.{initialCounter, counterBlock}
 
 -- how many blocks n bytes begin
 abbrev pub blocksBegun : ℕ → ℕ
@@ -13,7 +13,7 @@ blocksBegun n = (n + 15) / 16
 -- 2.6, X: n blocks, from block i on, of the key stream that E gives under V
 unfoldable pub streamBlocks : (List ℕ → List ℕ) → List ℕ → ℕ → ℕ → List ℕ
 streamBlocks E v i zero = []
-streamBlocks E v i (suc n) = streamBlocks E v i n ++ E (plus (clear v) (i + n))
+streamBlocks E v i (suc n) = streamBlocks E v i n ++ E (counterBlock (initialCounter v) (i + n))
 
 unfoldable pub streamWork : ℕ → ℕ
 streamWork zero = 0

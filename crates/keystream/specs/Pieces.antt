@@ -6,7 +6,7 @@ use Prim.Native.Nat.{ℕ, _+_, _-_, _*_, _/_, _%_}
 use lib.Dec.{eqb}
 use lib.ListN.{length, drop, replicate}
 use Rattle.octets.specs.Octets.{xors}
-use Rattle.counter.specs.Counter.{clear, plus}
+use Rattle.counter.specs.Counter.{initialCounter, counterBlock}
 use Rattle.keystream.specs.KeyStream.{blocksBegun, streamBlocks, streamWork}
 
 -- what is kept where no block is begun
@@ -15,7 +15,7 @@ noBlock = replicate 16 0
 
 -- the key stream's own block that its first n bytes begin and do not use up: it says which one that is, wherever it was made, and has no work
 unfoldable pub begunBlock : (List ℕ → List ℕ) → List ℕ → ℕ → List ℕ
-begunBlock E v n = cond (eqb (n % 16) 0) noBlock (E (plus (clear v) (n / 16)))
+begunBlock E v n = cond (eqb (n % 16) 0) noBlock (E (counterBlock (initialCounter v) (n / 16)))
 
 -- how many bytes of that block are left
 abbrev pub leftOver : ℕ → ℕ

@@ -6,7 +6,7 @@ ghost use Rattle.octets.specs.Octets.{put};
 ghost use Rattle.aes.specs.Cipher.{cipher};
 ghost use Rattle.aes.specs.Engine.{Ready};
 ghost use Rattle.aes.specs.Work.{Reports};
-ghost use Rattle.counter.specs.Counter.{clear, plus};
+ghost use Rattle.counter.specs.Counter.{initialCounter, counterBlock};
 ghost use Rattle.keystream.specs.KeyStream.{streamWork, xorStream};
 ghost use Rattle.keystream.specs.Pieces.{noBlock, pieceWork, xorPiece, keptAfter};
 use aes::Counted;
@@ -26,10 +26,10 @@ fn xor_with_block(
     at: usize,
 ) -> Counted
     requires { ⌜ Ready (now engine) × (width ≤ 32) × (length (now src) ≤ 16) × (at + length (now src) ≤ length (now dst)) ⌝ }
-    ensures block { λ r. ⌜ Reports (cipher width (now (keys .entry)) (plus (clear v) i)) 1 r ⌝ }
+    ensures block { λ r. ⌜ Reports (cipher width (now (keys .entry)) (counterBlock (initialCounter v) i)) 1 r ⌝ }
     ensures text { λ _. ⌜ now (dst .exit) ≡ put (now (dst .entry)) at (xorStream (cipher width (now (keys .entry))) v (16 * i) (now (src .entry))) ⌝ }
 {
-    let made = aes::encrypt(engine, width, keys, counter::plus(counter::clear(v), i));
+    let made = aes::encrypt(engine, width, keys, counter::counter_block(counter::initial_counter(v), i));
     let block = made.block;
     octets::xor_at(dst, at, src, &block);
     made

@@ -1,4 +1,4 @@
--- The C interface, "the host door" of document 01: whole sealing and opening with associated data and nonce, and opening under a ring of keys; their work, planned from lengths; and the dearest header list.
+-- The C interface, "the host door" of document 01: whole sealing and opening with associated data and nonce, and opening under a ring of keys; their work, planned from lengths; and the worst header list.
 -- Assumes nothing.
 use mathlib.Core.Path.{_≡_}
 use mathlib.Core.Bool.{Bool, cond, _&&_}
@@ -7,8 +7,8 @@ use Prim.Native.Nat.{ℕ, _+_, _*_, _/_, _%_}
 use lib.Dec.{eqb}
 use lib.ListN.{length}
 use denote.Ref.{now}
-use Rattle.answers.specs.Answer.{Outcome, numberAlone, first}
-use Rattle.dearest.specs.Dearest.{GivesDearest}
+use Rattle.answers.specs.Answer.{Outcome, refusal, first}
+use Rattle.worst_header.specs.WorstHeader.{GivesWorst}
 use Rattle.whole.specs.Calls.{isKeyLength, CallResult, refusedCall, sealCall, openCall, Lent}
 use Rattle.whole.specs.Ring.{ringRows, RingResult, refusedRing, openRing}
 use Rattle.whole.specs.Work.{plannedWork}
@@ -86,7 +86,7 @@ PerformsRingFromC keyLength ring header ad nonce input output scratch given =
 unfoldable pub plannedFromC : ℕ → ℕ → ℕ → ℕ
 plannedFromC ad nonce n = cond (eqb nonce 0) 0 (plannedWork (aeadLens ad nonce) n)
 
--- ---- the dearest header list
+-- ---- the worst header list
 
 -- the answer from bit 32 on, and the blocks below it
 abbrev pub numberIn : ℕ → ℕ
@@ -96,5 +96,5 @@ abbrev pub blocksIn : ℕ → ℕ
 blocksIn given = given % 4294967296
 
 -- what the interface promises of the number and of the lent places
-abbrev pub GivesDearestFromC : ℕ → ℕ → ℕ → List ℕ → ℕ → Type 0
-GivesDearestFromC h k least places given = GivesDearest h k least (numberAlone (numberIn given)) places (blocksIn given)
+abbrev pub GivesWorstFromC : ℕ → ℕ → ℕ → List ℕ → ℕ → Type 0
+GivesWorstFromC h k least places given = GivesWorst h k least (refusal (numberIn given)) places (blocksIn given)

@@ -1,10 +1,10 @@
-// The C interface: whole sealing and opening over byte slices, and opening under a ring of keys, with associated data and nonce as the header list; their work, planned from lengths; and the dearest header list.
+// The C interface: whole sealing and opening over byte slices, and opening under a ring of keys, with associated data and nonce as the header list; their work, planned from lengths; and the worst header list.
 ghost use mathlib.Core.Path.{_≡_};
 ghost use Prim.Native.Nat.{_≤_};
 ghost use Rattle.answers.specs.Answer.{outcomeOf};
 ghost use Rattle.whole.specs.Calls.{limit};
 ghost use Rattle.kinphlor.specs.Interface.{packed, emptyNonce, sealFromC, openFromC, PerformsFromC};
-ghost use Rattle.kinphlor.specs.Interface.{packedRing, emptyNonceRing, PerformsRingFromC, plannedFromC, GivesDearestFromC};
+ghost use Rattle.kinphlor.specs.Interface.{packedRing, emptyNonceRing, PerformsRingFromC, plannedFromC, GivesWorstFromC};
 use answers::Answer;
 use answers::Refusal;
 use whole::RingAnswer;
@@ -125,17 +125,17 @@ pub extern "C" fn kinphlor_planned_work(ad_len: u32, nonce_len: u32, n: usize) -
     admission::planned_work(&lens, n) as u64
 }
 
-// The dearest header list: of all lists of count lengths that sum to header_len, none under the least, one whose strings have the most blocks, to the lent places. The number is the answer's times 2 to the power 32, plus these blocks; after 12 places and blocks are zero.
+// The worst header list: of all lists of count lengths that sum to header_len, none under the least, one whose strings have the most blocks, to the lent places. The number is the answer's times 2 to the power 32, plus these blocks; after 12 places and blocks are zero.
 #[no_mangle]
-pub extern "C" fn kinphlor_dearest_header(
+pub extern "C" fn kinphlor_worst_header(
     header_len: usize,
     count: usize,
     least: usize,
     lens: &mut [u32; 126],
 ) -> u64
-    ensures { λ r. ⌜ GivesDearestFromC «header_len» count least (now (lens .exit)) r ⌝ }
+    ensures { λ r. ⌜ GivesWorstFromC «header_len» count least (now (lens .exit)) r ⌝ }
 {
-    let given = dearest::header_list(header_len, count, least);
+    let given = worst_header::header_list(header_len, count, least);
     let places = given.lens;
     *lens = places;
     let answer = given.answer;

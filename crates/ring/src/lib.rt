@@ -12,12 +12,12 @@ ghost use Rattle.whole.specs.Siv.{opened, genuine, genuineWork};
 use admission::TAG_LEN;
 use aes::Engine;
 use answers::Answer;
-use siv::admitted::Tried;
+use siv::admitted::Verdict;
 use whole::Found;
 use whole::RingAnswer;
 
 // Opens under the key of one slot of a ring.
-fn opens_slot(
+fn try_slot(
     engine: &Engine,
     key_len: usize,
     ring: &[u8],
@@ -26,14 +26,14 @@ fn opens_slot(
     lens: &[u32],
     sealed: &[u8],
     scratch: &mut [u8],
-) -> Tried
+) -> Verdict
     requires { ⌜ Ready (now engine) × (isKeyLength «key_len» ≡ true) × (slot * «key_len» + «key_len» ≤ length (now ring)) × (total (now lens) ≤ length (now header)) × (length (now lens) ≤ 126) × (16 ≤ length (now sealed)) × (length (now sealed) ≤ 16 + length (now scratch)) ⌝ }
     ensures judged { λ r. ⌜ r .genuine ≡ genuine (slotKey «key_len» (now (ring .entry)) slot) (strings (now (header .entry)) (now (lens .entry))) (now (sealed .entry)) ⌝ }
     ensures work { λ r. ⌜ r .work ≡ genuineWork (slotKey «key_len» (now (ring .entry)) slot) (strings (now (header .entry)) (now (lens .entry))) (now (sealed .entry)) ⌝ }
     ensures text { λ _. ⌜ now (scratch .exit) ≡ put (now (scratch .entry)) 0 (opened (slotKey «key_len» (now (ring .entry)) slot) (now (sealed .entry))) ⌝ }
 {
     let at = slot * key_len;
-    siv::admitted::opens(
+    siv::admitted::decrypt_and_verify(
         engine,
         &ring[at..at + key_len],
         header,
@@ -44,7 +44,7 @@ fn opens_slot(
 }
 
 // Tries the slots of a ring from slot 0 on: ends at the first whose key opens, with its plaintext at the front of scratch, or behind the last.
-fn first_slot(
+fn try_slots(
     key_len: usize,
     slots: usize,
     ring: &[u8],
@@ -66,7 +66,7 @@ fn first_slot(
             break slots;
         }
         let slot = slots - left;
-        let tried = opens_slot(&engine, key_len, ring, slot, header, lens, sealed, scratch);
+        let tried = try_slot(&engine, key_len, ring, slot, header, lens, sealed, scratch);
         work = work + tried.work;
         if tried.genuine {
             break slot;
@@ -116,10 +116,10 @@ pub fn open_ring(
         };
     }
     let slots = ring.len() / key_len;
-    let found = first_slot(key_len, slots, ring, header, lens, input, scratch);
+    let found = try_slots(key_len, slots, ring, header, lens, input, scratch);
     let slot = given_slot(found, slots);
     RingAnswer {
-        answer: siv::admitted::deliver(found.slot < slots, y - TAG_LEN, output, scratch),
+        answer: siv::admitted::release_or_wipe(found.slot < slots, y - TAG_LEN, output, scratch),
         slot,
         work: found.work,
     }

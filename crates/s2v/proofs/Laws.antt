@@ -189,4 +189,4 @@ module _ (w : ℕ) (bytes lens : List ℕ) where
 
   -- it is far from the largest number
   pub worked-most : (i : ℕ) → total lens < 2 ^ 64 → w + length lens ≤ 127 → worked i ≤ 2 ^ 62
-  worked-most i h few = omega (arith, absorb-work-most w bytes (take i lens), total-take lens i, length-take i lens)
+  worked-most i h most = omega (arith, absorb-work-most w bytes (take i lens), total-take lens i, length-take i lens)

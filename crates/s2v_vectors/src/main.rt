@@ -86,7 +86,7 @@ fn long_end(d: Block, p: &[u8])
 fn counter(engine: &Engine, keys: &RoundKeys, q: Block, i: u64)
     requires { ⌜ Ready (now engine) ⌝ }
 {
-    let b = counter::plus(q, i);
+    let b = counter::counter_block(q, i);
     let e = block_of(aes::encrypt(engine, 16, keys, b));
     printer::line(b"    CTR", &b);
     printer::line(b"    E(K,CTR)", &e);
@@ -127,7 +127,7 @@ fn a1(engine: &Engine)
     printer::text(b"A.1\n");
     let v = a1_tag(engine);
     let keys = half_keys(engine, &A1_KEY, 16);
-    let q = counter::clear(v);
+    let q = counter::initial_counter(v);
     counter(engine, &keys, q, 0);
     ciphertext(engine, &keys, v, &A1_PLAINTEXT);
 }
@@ -156,7 +156,7 @@ fn a2_text(engine: &Engine, v: Block)
     requires { ⌜ Ready (now engine) ⌝ }
 {
     let keys = half_keys(engine, &A2_KEY, 16);
-    let q = counter::clear(v);
+    let q = counter::initial_counter(v);
     counter(engine, &keys, q, 0);
     counter(engine, &keys, q, 1);
     counter(engine, &keys, q, 2);

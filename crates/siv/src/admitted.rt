@@ -21,7 +21,7 @@ use answers::Refusal;
 use octets::Block;
 
 // Whether a string is genuine, and the work that it took to tell.
-pub struct Tried {
+pub struct Verdict {
     pub genuine: bool,
     pub work: usize,
 }
@@ -62,7 +62,7 @@ fn tag_of(engine: &Engine, key: &[u8], header: &[u8], lens: &[u32], p: &[u8]) ->
 }
 
 // Writes src, xored with the key stream of a tag, at a place of a slice; gives the work.
-fn stream(engine: &Engine, key: &[u8], v: Block, src: &[u8], dst: &mut [u8], at: usize) -> usize
+fn xor_key_stream(engine: &Engine, key: &[u8], v: Block, src: &[u8], dst: &mut [u8], at: usize) -> usize
     requires { ⌜ Ready (now engine) × (isKeyLength (length (now key)) ≡ true) × (at + length (now src) ≤ length (now dst)) ⌝ }
     ensures work { λ r. ⌜ r ≡ streamedWork (now (src .entry)) ⌝ }
     ensures text { λ _. ⌜ now (dst .exit) ≡ put (now (dst .entry)) at (streamed (now (key .entry)) v (now (src .entry))) ⌝ }
@@ -89,18 +89,18 @@ pub(crate) fn seal_admitted(
     let tag = tag_of(&engine, key, header, lens, input);
     let v = tag.block;
     octets::store(output, 0, v);
-    tag.work + stream(&engine, key, v, input, output, TAG_LEN)
+    tag.work + xor_key_stream(&engine, key, v, input, output, TAG_LEN)
 }
 
 // Opens to the front of scratch, and says whether the recomputed tag is the given one.
-pub fn opens(
+pub fn decrypt_and_verify(
     engine: &Engine,
     key: &[u8],
     header: &[u8],
     lens: &[u32],
     sealed: &[u8],
     scratch: &mut [u8],
-) -> Tried
+) -> Verdict
     requires { ⌜ Ready (now engine) × Usable (now key) (now header) (now lens) × (16 ≤ length (now sealed)) × (length (now sealed) ≤ 16 + length (now scratch)) ⌝ }
     ensures judged { λ r. ⌜ r .genuine ≡ genuine (now (key .entry)) (strings (now (header .entry)) (now (lens .entry))) (now (sealed .entry)) ⌝ }
     ensures work { λ r. ⌜ r .work ≡ genuineWork (now (key .entry)) (strings (now (header .entry)) (now (lens .entry))) (now (sealed .entry)) ⌝ }
@@ -108,17 +108,17 @@ pub fn opens(
 {
     let v = octets::load(sealed, 0);
     let n = sealed.len() - TAG_LEN;
-    let work = stream(engine, key, v, &sealed[TAG_LEN..], scratch, 0);
+    let work = xor_key_stream(engine, key, v, &sealed[TAG_LEN..], scratch, 0);
     let tag = tag_of(engine, key, header, lens, &scratch[0..n]);
     let t = tag.block;
-    Tried {
+    Verdict {
         genuine: octets::same_block(t, v),
         work: work + tag.work,
     }
 }
 
 // Ends an opening of n bytes: what scratch has of them to the front of output if it is genuine, or zeros; then zeros over the scratch.
-pub fn deliver(genuine: bool, n: usize, output: &mut [u8], scratch: &mut [u8]) -> Answer
+pub fn release_or_wipe(genuine: bool, n: usize, output: &mut [u8], scratch: &mut [u8]) -> Answer
     requires { ⌜ (n ≤ length (now output)) × (scratchNeed n ≤ length (now scratch)) ⌝ }
     ensures outcome { λ r. ⌜ ((w : ℕ) → outcomeOf r w ≡ cond genuine (success n w) (forged w)) ⌝ }
     ensures output { λ _. ⌜ now (output .exit) ≡ put (now (output .entry)) 0 (cond genuine (take n (now (scratch .entry))) (replicate n 0)) ⌝ }

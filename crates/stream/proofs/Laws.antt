@@ -22,7 +22,7 @@ use Rattle.keystream.proofs.Laws.{length-xorPiece}
 use Rattle.answers.specs.declared.Answer.{Answer}
 use Rattle.answers.specs.declared.Answer.the-variants.{Ok, Refused}
 use Rattle.answers.specs.declared.Refusal.the-variants.{Forged}
-use Rattle.answers.specs.Answer.{Outcome, Row, row, first, outcomeOf, success, numberAlone, forged}
+use Rattle.answers.specs.Answer.{Outcome, Row, row, first, outcomeOf, success, refusal, forged}
 use Rattle.answers.proofs.Laws.{lacks, outcome-number, outcome-work, not-due, first-not, first-pass, first-stop, first-append}
 use Rattle.tail.specs.declared.Absorbed.{Absorbed}
 use Rattle.tail.specs.Tail.{AfterPiece}
@@ -63,8 +63,8 @@ fit wanted s e =
     }
 
 -- what was judged of a state by a test that says whether it fits
-pub judged-by : (wanted : ℕ) (s : Stream) (rest : ℕ) {f : Bool} {o : Outcome} → f ≡ fits wanted s → o ≡ numberAlone (cond (not f) 9 rest) → o ≡ numberAlone (cond (not (fits wanted s)) 9 rest)
-judged-by wanted s rest e o = o ∙ ap (λ (f : Bool). numberAlone (cond (not f) 9 rest)) e
+pub judged-by : (wanted : ℕ) (s : Stream) (rest : ℕ) {f : Bool} {o : Outcome} → f ≡ fits wanted s → o ≡ refusal (cond (not f) 9 rest) → o ≡ refusal (cond (not (fits wanted s)) 9 rest)
+judged-by wanted s rest e o = o ∙ ap (λ (f : Bool). refusal (cond (not f) 9 rest)) e
 
 -- ---- the calls' results
 
@@ -76,7 +76,7 @@ module _ (test : Bool) (a b : StepResult) {step : Step} {last : List ℕ} where
   picked-else : test ≡ false → DidStep b step last → DidStep (cond test a b) step last
   picked-else e d = subst (λ (t : Bool). DidStep (cond t a b) step last) (sym e) d
 
-pub refused : (a : Answer) (n : ℕ) (done : StepResult) (s : Stream) (output : List ℕ) → (outcomeOf a 0 .number ≡ 0 → ⊥) → outcomeOf a 0 ≡ numberAlone n
+pub refused : (a : Answer) (n : ℕ) (done : StepResult) (s : Stream) (output : List ℕ) → (outcomeOf a 0 .number ≡ 0 → ⊥) → outcomeOf a 0 ≡ refusal n
     → DidStep (settle n done s output) (record { answer = a; work = 0; state = s }) output
 refused a n done s output k e =
     picked-else (eqb n 0) done (refusedStep n s output) (ne-eqb n 0 (λ z. k (ap (λ (o : Outcome). o .number) e ∙ z))) (record { outcome = e; state = refl; output = refl })
@@ -157,14 +157,14 @@ module _ (s : Stream) (output : List ℕ) where
   number : ℕ
   number = first (finishTable s output)
 
-  pub finish-refused : (a : Answer) → (outcomeOf a 0 .number ≡ 0 → ⊥) → outcomeOf a 0 ≡ numberAlone (first (finishRows s (length output)))
+  pub finish-refused : (a : Answer) → (outcomeOf a 0 .number ≡ 0 → ⊥) → outcomeOf a 0 ≡ refusal (first (finishRows s (length output)))
       → DidStep (finishStep s output) (record { answer = a; work = 0; state = s }) output
   unfolding finishStep judged forgery number
   finish-refused a k e =
       let due : first judged ≡ 0 → ⊥ = λ z. k (ap (λ (o : Outcome). o .number) e ∙ z) in
       let stops : number ≡ first judged = first-stop judged forgery due in
       let off8 : eqb number 8 ≡ false = ne-eqb number 8 (λ z. first-not 8 judged refl (λ z. omega arith) (sym stops ∙ z)) in
-      picked-else (eqb number 8) _ _ off8 (refused a number _ s output k (e ∙ ap numberAlone (sym stops)))
+      picked-else (eqb number 8) _ _ off8 (refused a number _ s output k (e ∙ ap refusal (sym stops)))
 
   module _ {state : Stream} (none : first (finishRows s (length output)) ≡ 0) (ends : state ≡ ended) where
     by-tag : number ≡ cond (not (same (tagOfState s) (s .v))) 8 0
@@ -186,7 +186,7 @@ module _ (s : Stream) (output : List ℕ) where
 
 -- ---- begin
 
-pub begin-refused : (a : Answer) (n : ℕ) (result : StepResult) {state : Stream} → (outcomeOf a 0 .number ≡ 0 → ⊥) → outcomeOf a 0 ≡ numberAlone n → state ≡ ended
+pub begin-refused : (a : Answer) (n : ℕ) (result : StepResult) {state : Stream} → (outcomeOf a 0 .number ≡ 0 → ⊥) → outcomeOf a 0 ≡ refusal n → state ≡ ended
     → DidStep (settle n result ended []) (record { answer = a; work = 0; state = state }) []
 begin-refused a n result {state} k e ends =
     subst (λ (s : Stream). DidStep (settle n result ended []) (record { answer = a; work = 0; state = s }) []) (sym ends) (refused a n result ended [] k e)
@@ -232,7 +232,7 @@ module _ (rows : List Row) (present : lacks 0 rows ≡ true) (w : ℕ) (h : Head
       kept false z = refl
 
   -- any other is refused, with 5 where no row before it is due
-  pub begins-untagged : (before : Answer) {step : Step} → eqb (length tag) 16 ≡ false → outcomeOf before 0 ≡ numberAlone (first rows)
+  pub begins-untagged : (before : Answer) {step : Step} → eqb (length tag) 16 ≡ false → outcomeOf before 0 ≡ refusal (first rows)
       → DidStep (refusedStep (cond (eqb (outcomeOf before 0 .number) 0) 5 (outcomeOf before 0 .number)) ended []) step []
       → DidStep (beginBy (first (rows ++ tagRows (length tag))) w h 3 tag) step []
   begins-untagged before {step} e o d =

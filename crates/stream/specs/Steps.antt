@@ -10,7 +10,7 @@ use Rattle.octets.specs.Octets.{put, same}
 use Rattle.cmac.specs.Cmac.{zeros}
 use Rattle.header.specs.Header.{strings}
 use Rattle.keystream.specs.Pieces.{pieceWork}
-use Rattle.answers.specs.Answer.{Outcome, success, numberAlone, forged, outcomeOf, Row, row, first}
+use Rattle.answers.specs.Answer.{Outcome, success, refusal, forged, outcomeOf, Row, row, first}
 use Rattle.whole.specs.Calls.{limit, headerRows}
 use Rattle.head.specs.declared.Head.{Head}
 use Rattle.head.specs.Head.{headOf, headOfWork, extended, extendedWork, restRows}
@@ -34,7 +34,7 @@ abbrev pub doneStep : ℕ → ℕ → Stream → List ℕ → StepResult
 doneStep n w s output = record { outcome = success n w; state = s; output = output }
 
 abbrev pub refusedStep : ℕ → Stream → List ℕ → StepResult
-refusedStep n s output = record { outcome = numberAlone n; state = s; output = output }
+refusedStep n s output = record { outcome = refusal n; state = s; output = output }
 
 -- the result of a call whose rows give a number: success, or the refusal with state and output as given
 abbrev pub settle : ℕ → StepResult → Stream → List ℕ → StepResult

@@ -41,7 +41,7 @@ fn start(head: Head, stage: u8, v: Block) -> Stream
 }
 
 // Begins with the head that was made, or hands its refusal on with the ended state.
-pub(crate) fn begun(made: Made, stage: u8, v: Block) -> Step
+pub(crate) fn begin_with(made: Made, stage: u8, v: Block) -> Step
     ensures { λ r. ⌜ DidStep (beginBy (outcomeOf (made .answer) 0 .number) (made .work) (made .head) stage v) r [] ⌝ }
 {
     let answer = made.answer;
@@ -61,7 +61,7 @@ pub(crate) fn begun(made: Made, stage: u8, v: Block) -> Step
 }
 
 // Refuses a tag of another length than 16: with 5, or with the refusal that is due before it.
-pub(crate) fn untagged(before: Answer) -> Step
+pub(crate) fn refuse_tag(before: Answer) -> Step
     ensures { λ r. ⌜ DidStep (refusedStep (cond (eqb (outcomeOf before 0 .number) 0) 5 (outcomeOf before 0 .number)) ended []) r [] ⌝ }
 {
     if let Answer::Refused(_) = before {

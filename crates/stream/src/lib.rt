@@ -84,7 +84,7 @@ impl Stream {
     pub fn begin_sealer(key: &[u8], header: &[u8], lens: &[u32]) -> Step
         ensures { λ r. ⌜ DidStep (beginSealer (now (key .entry)) (now (header .entry)) (now (lens .entry))) r [] ⌝ }
     {
-        begin::begun(Head::make(key, header, lens), 1, [0u8; 16])
+        begin::begin_with(Head::make(key, header, lens), 1, [0u8; 16])
     }
 
     // An opener's state from a key, a header list and a tag.
@@ -92,16 +92,16 @@ impl Stream {
         ensures { λ r. ⌜ DidStep (beginOpener (now (key .entry)) (now (header .entry)) (now (lens .entry)) (now (tag .entry))) r [] ⌝ }
     {
         if !judge::is_tag(tag) {
-            return begin::untagged(admission::judge_header(key.len(), lens, header.len()));
+            return begin::refuse_tag(admission::judge_header(key.len(), lens, header.len()));
         }
-        begin::begun(Head::make(key, header, lens), 3, octets::load(tag, 0))
+        begin::begin_with(Head::make(key, header, lens), 3, octets::load(tag, 0))
     }
 
     // A sealer's state from a head and the strings of the header list that follow its own.
     pub fn begin_sealer_from(head: Head, rest: &[u8], lens: &[u32]) -> Step
         ensures { λ r. ⌜ DidStep (beginSealerFrom head (now (rest .entry)) (now (lens .entry))) r [] ⌝ }
     {
-        begin::begun(head.extend(rest, lens), 1, [0u8; 16])
+        begin::begin_with(head.extend(rest, lens), 1, [0u8; 16])
     }
 
     // An opener's state from a head, the strings that follow its own, and a tag.
@@ -109,9 +109,9 @@ impl Stream {
         ensures { λ r. ⌜ DidStep (beginOpenerFrom head (now (rest .entry)) (now (lens .entry)) (now (tag .entry))) r [] ⌝ }
     {
         if !judge::is_tag(tag) {
-            return begin::untagged(head::judge::judge_rest(head, lens, rest.len()));
+            return begin::refuse_tag(head::judge::judge_rest(head, lens, rest.len()));
         }
-        begin::begun(head.extend(rest, lens), 3, octets::load(tag, 0))
+        begin::begin_with(head.extend(rest, lens), 3, octets::load(tag, 0))
     }
 
     // Adds a piece of plaintext.

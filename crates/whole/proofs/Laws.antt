@@ -22,7 +22,7 @@ use Rattle.keystream.specs.KeyStream.{xorStream}
 use Rattle.keystream.proofs.Laws.{length-xorStream}
 use Rattle.answers.specs.declared.Answer.{Answer}
 use Rattle.answers.specs.declared.Answer.the-variants.{Ok}
-use Rattle.answers.specs.Answer.{Outcome, Row, row, first, outcomeOf, success, numberAlone, forged}
+use Rattle.answers.specs.Answer.{Outcome, Row, row, first, outcomeOf, success, refusal, forged}
 use Rattle.answers.proofs.Laws.{first-not, first-pass, first-stop, first-none, none-where, not-due}
 use Rattle.whole.specs.declared.Report.{Report}
 use Rattle.whole.specs.Calls.{isKeyLength, limit, scratchNeed, headerRows, sealRows, openRows, Usable, DidCall, sealNumber, sealCall, openNumber, openCall}
@@ -108,11 +108,11 @@ header-usable key bytes lens e =
 -- what sealing's refusals leave
 pub record SealAdmits (key bytes lens input output scratch : List ℕ) : Type 0 where
   pub keyed : isKeyLength (length key) ≡ true
-  pub listed : total lens ≡ length bytes
-  pub few : length lens ≤ 126
+  pub sums : total lens ≡ length bytes
+  pub countFits : length lens ≤ 126
   pub limited : length input ≤ 1048576
-  pub roomy : length input + 16 ≤ length output
-  pub scratchy : scratchNeed (length input) ≤ length scratch
+  pub outputFits : length input + 16 ≤ length output
+  pub scratchFits : scratchNeed (length input) ≤ length scratch
 
 module _ (key bytes lens input output scratch : List ℕ) where
   pub seal-admits : sealNumber key bytes lens input output scratch ≡ 0 → SealAdmits key bytes lens input output scratch
@@ -125,11 +125,11 @@ module _ (key bytes lens input output scratch : List ℕ) where
       let h = not-due (ltb (length scratch) (scratchNeed (length input))) 6 0 (g .1) in
       record {
         keyed = a .0;
-        listed = a .1;
-        few = a .2;
+        sums = a .1;
+        countFits = a .2;
         limited = ltb-false limit (length input) (f .0);
-        roomy = ltb-false (length output) (length input + 16) (g .0);
-        scratchy = ltb-false (length scratch) (scratchNeed (length input)) (h .0);
+        outputFits = ltb-false (length output) (length input + 16) (g .0);
+        scratchFits = ltb-false (length scratch) (scratchNeed (length input)) (h .0);
       }
 
   -- no length is above the longest sealed string's
@@ -141,7 +141,7 @@ module _ (key bytes lens input output scratch : List ℕ) where
       go true e = omega (arith, seal-admits (eqb-true _ 0 e) .limited)
       go false e = omega arith
 
-  pub seal-refused : (answer : Answer) → (outcomeOf answer 0 .number ≡ 0 → ⊥) → outcomeOf answer 0 ≡ numberAlone (sealNumber key bytes lens input output scratch)
+  pub seal-refused : (answer : Answer) → (outcomeOf answer 0 .number ≡ 0 → ⊥) → outcomeOf answer 0 ≡ refusal (sealNumber key bytes lens input output scratch)
       → DidCall (sealCall key bytes lens input output scratch) (record { answer = answer; work = 0 }) output scratch
   unfolding sealCall
   seal-refused answer k e =
@@ -160,12 +160,12 @@ module _ (key bytes lens input output scratch : List ℕ) where
 -- what opening's refusals but 8 leave
 pub record OpenAdmits (key bytes lens input output scratch : List ℕ) : Type 0 where
   pub keyed : isKeyLength (length key) ≡ true
-  pub listed : total lens ≡ length bytes
-  pub few : length lens ≤ 126
+  pub sums : total lens ≡ length bytes
+  pub countFits : length lens ≤ 126
   pub tagged : 16 ≤ length input
   pub limited : length input ≤ 1048592
-  pub roomy : length input - 16 ≤ length output
-  pub scratchy : scratchNeed (length input - 16) ≤ length scratch
+  pub outputFits : length input - 16 ≤ length output
+  pub scratchFits : scratchNeed (length input - 16) ≤ length scratch
 
 -- what was in the bytes that are written over does not matter
 pub put-beyond : (l used b : List ℕ) (n : ℕ) → n ≤ length b → drop n used ≡ drop n l → put used 0 b ≡ put l 0 b
@@ -226,12 +226,12 @@ module _ (key bytes lens input output scratch : List ℕ) where
       let i = not-due (ltb (length scratch) (scratchNeed (length input - 16))) 6 0 (h .1) in
       record {
         keyed = a .0;
-        listed = a .1;
-        few = a .2;
+        sums = a .1;
+        countFits = a .2;
         tagged = ltb-false (length input) 16 (f .0);
         limited = ltb-false (limit + 16) (length input) (g .0);
-        roomy = ltb-false (length output) (length input - 16) (h .0);
-        scratchy = ltb-false (length scratch) (scratchNeed (length input - 16)) (i .0);
+        outputFits = ltb-false (length output) (length input - 16) (h .0);
+        scratchFits = ltb-false (length scratch) (scratchNeed (length input - 16)) (i .0);
       }
 
   number : ℕ
@@ -254,14 +254,14 @@ module _ (key bytes lens input output scratch : List ℕ) where
   unfolding rows
   not-eight e = first-not 8 rows refl (λ q. omega arith) e
 
-  pub open-refused : (answer : Answer) → (outcomeOf answer 0 .number ≡ 0 → ⊥) → outcomeOf answer 0 ≡ numberAlone openJudged
+  pub open-refused : (answer : Answer) → (outcomeOf answer 0 .number ≡ 0 → ⊥) → outcomeOf answer 0 ≡ refusal openJudged
       → DidCall (openCall key bytes lens input output scratch) (record { answer = answer; work = 0 }) output scratch
   unfolding openCall number
   open-refused answer k e =
       let due : openJudged ≡ 0 → ⊥ = λ z. k (ap (λ (o : Outcome). o .number) e ∙ z) in
       let off : eqb number 0 ≡ false = ne-eqb number 0 (λ z. due (sym (number-due due) ∙ z)) in
       let off8 : eqb number 8 ≡ false = ne-eqb number 8 (λ z. not-eight (sym (number-due due) ∙ z)) in
-      record { outcome = simp (off, off8) (e ∙ ap numberAlone (sym (number-due due))); output = simp (off, off8) refl; scratch = simp (off, off8) refl }
+      record { outcome = simp (off, off8) (e ∙ ap refusal (sym (number-due due))); output = simp (off, off8) refl; scratch = simp (off, off8) refl }
 
   -- a refusal of the judgement is the call's number
   pub open-due : (openJudged ≡ 0 → ⊥) → openCall key bytes lens input output scratch .outcome .number ≡ openJudged

@@ -14,7 +14,7 @@ use Rattle.octets.specs.Octets.{put}
 use Rattle.octets.proofs.Strings.{part-to}
 use Rattle.header.specs.Header.{strings}
 use Rattle.answers.specs.declared.Answer.{Answer}
-use Rattle.answers.specs.Answer.{Outcome, Row, first, outcomeOf, success, numberAlone, forged}
+use Rattle.answers.specs.Answer.{Outcome, Row, first, outcomeOf, success, refusal, forged}
 use Rattle.answers.proofs.Laws.{first-none, first-pass, first-stop, outcome-with}
 use Rattle.whole.specs.declared.Found.{Found}
 use Rattle.whole.specs.declared.RingAnswer.{RingAnswer}
@@ -163,7 +163,7 @@ try-same test test′ work work′ i sum (suc n) t w =
 
 -- how far the search is where so many slots are left: the rest ends where all do, and of the scratch only the first n bytes were used
 pub record Trying (test : ℕ → Bool) (work : ℕ → ℕ) (most count n : ℕ) (scratch used : List ℕ) (left sum : ℕ) : Type 0 where
-  pub few : left ≤ count
+  pub within : left ≤ count
   pub long : length used ≡ length scratch
   pub rest : drop n used ≡ drop n scratch
   pub same : trySlots test work (count - left) sum left ≡ trySlots test work 0 0 count
@@ -172,7 +172,7 @@ pub record Trying (test : ℕ → Bool) (work : ℕ → ℕ) (most count n : ℕ
 module _ (test : ℕ → Bool) (work : ℕ → ℕ) (most count n : ℕ) (scratch : List ℕ) where
   pub trying-none : Trying test work most count n scratch scratch count 0
   trying-none =
-      record { few = omega arith; long = refl; rest = refl; same = ap (λ (i : ℕ). trySlots test work i 0 count) (omega arith); small = omega arith }
+      record { within = omega arith; long = refl; rest = refl; same = ap (λ (i : ℕ). trySlots test work i 0 count) (omega arith); small = omega arith }
 
   -- the end of those that are left, where the first of them passes or not
   first-left : {used : List ℕ} {left sum : ℕ} → Trying test work most count n scratch used (suc left) sum → (t : Bool) → test (count - suc left) ≡ t
@@ -187,9 +187,9 @@ module _ (test : ℕ → Bool) (work : ℕ → ℕ) (most count n : ℕ) (scratc
   trying-more used used′ zero sum w s z t e m l r = absurd (z refl)
   trying-more used used′ (suc left) sum w s z t e m l r =
       let less : suc left - 1 ≡ left = omega arith in
-      let next : count - (suc left - 1) ≡ suc (count - suc left) = omega (arith, s .few) in
+      let next : count - (suc left - 1) ≡ suc (count - suc left) = omega (arith, s .within) in
       record {
-        few = omega (arith, s .few);
+        within = omega (arith, s .within);
         long = l ∙ s .long;
         rest = r ∙ s .rest;
         same = ap₂ (λ (i m : ℕ). trySlots test work i (sum + w) m) next less ∙ ap (λ (k : ℕ). trySlots test work (suc (count - suc left)) (sum + k) left) e ∙ first-left s false t;
@@ -332,11 +332,11 @@ module _ (keyLength : ℕ) (ring bytes lens input output scratch : List ℕ) whe
       let each : (j : ℕ) → j < 0 + count → works j ≡ w = λ j h.
       let passed = slot-judged z j (omega arith) ∙ sym (slot-judged z s (chosen-within opens count some g)) ∙ judged in
       open-work (slotKey keyLength ring j) bytes lens input output scratch passed
-      ∙ genuine-lengths (slotKey keyLength ring j) bytes lens input (omega (arith, open-admits (slotKey keyLength ring j) bytes lens input output scratch passed .listed)) in
+      ∙ genuine-lengths (slotKey keyLength ring j) bytes lens input (omega (arith, open-admits (slotKey keyLength ring j) bytes lens input output scratch passed .sums)) in
       omega (arith, zero-mul w, try-work opens works w 0 0 count each) ∙ ap (λ (k : ℕ). k * w) (sym (chosen-tried opens count works some g))
 
   -- a refusal of the judgement is the ring's
-  pub ring-refused : (answer : Answer) → (outcomeOf answer 0 .number ≡ 0 → ⊥) → outcomeOf answer 0 ≡ numberAlone ringJudged
+  pub ring-refused : (answer : Answer) → (outcomeOf answer 0 .number ≡ 0 → ⊥) → outcomeOf answer 0 ≡ refusal ringJudged
       → DidRing (openRing keyLength ring bytes lens input output scratch) (record { answer = answer; slot = 0; work = 0 }) output scratch
   ring-refused answer k e = go ring-comes
     where
@@ -344,13 +344,13 @@ module _ (keyLength : ℕ) (ring bytes lens input output scratch : List ℕ) whe
       go (stops z) =
           record {
             slot = refl;
-            call = record { outcome = e ∙ ap numberAlone (first-stop (ringRows keyLength (length ring)) restRows z); output = refl; scratch = refl };
+            call = record { outcome = e ∙ ap refusal (first-stop (ringRows keyLength (length ring)) restRows z); output = refl; scratch = refl };
           }
       go (goes {s} z g) =
           let within = chosen-within opens count (ring-admits keyLength (length ring) z .1 .some) g in
           let judged = first-pass (ringRows keyLength (length ring)) restRows refl z ∙ sym (slot-judged z s within) in
           let due : openJudged (slotKey keyLength ring s) bytes lens input output scratch ≡ 0 → ⊥ = λ y. k (ap (λ (o : Outcome). o .number) e ∙ judged ∙ y) in
-          let refused = open-refused (slotKey keyLength ring s) bytes lens input output scratch answer k (e ∙ ap numberAlone judged) in
+          let refused = open-refused (slotKey keyLength ring s) bytes lens input output scratch answer k (e ∙ ap refusal judged) in
           let closed : opens s ≡ false = ne-eqb (openSlot keyLength ring bytes lens input output scratch s .outcome .number) 0
           (λ y. due (sym (open-due (slotKey keyLength ring s) bytes lens input output scratch due) ∙ y)) in
           record {
@@ -408,7 +408,7 @@ module _ (keyLength : ℕ) (ring bytes lens input output scratch : List ℕ) whe
           let key = slotKey keyLength ring (end .slot) in
           let long : length (opened key input) ≡ length input - 16 = length-opened key input in
           by (end .slot) true at h (tells .passes (omega (arith, h)))
-          (λ _. text-read (opened key input) scratch (text h) (sym long) (omega (arith, long, open-admits key bytes lens input output scratch (slot-passed judged (end .slot) h) .scratchy))) o p
+          (λ _. text-read (opened key input) scratch (text h) (sym long) (omega (arith, long, open-admits key bytes lens input output scratch (slot-passed judged (end .slot) h) .scratchFits))) o p
       go false e at o p =
           let some = ring-admits keyLength (length ring) (ring-judged judged .0) .1 .some in
           by 0 false at some (tells .before 0 (omega arith) (omega (arith, some, ltb-false (end .slot) count e))) (λ t. absurd (false≢true t)) o p

@@ -10,7 +10,7 @@ use denote.Ref.{RefT, now}
 use denote.Triple.Both.{Both}
 use Rattle.octets.specs.Octets.{put}
 use Rattle.header.specs.Header.{total, strings}
-use Rattle.answers.specs.Answer.{Outcome, numberAlone, Row, row, first, outcomeOf}
+use Rattle.answers.specs.Answer.{Outcome, refusal, Row, row, first, outcomeOf}
 use Rattle.whole.specs.declared.Report.{Report}
 use Rattle.whole.specs.Siv.{sealed, sealedWork, opened, genuine, genuineWork}
 
@@ -52,7 +52,7 @@ pub record CallResult : Type 0 where
 
 -- a refusal with all lent memory untouched
 abbrev pub refusedCall : ℕ → List ℕ → List ℕ → CallResult
-refusedCall n output scratch = record { outcome = numberAlone n; output = output; scratch = scratch }
+refusedCall n output scratch = record { outcome = refusal n; output = output; scratch = scratch }
 
 -- a call gave what its definition says
 pub record DidCall (result : CallResult) (report : Report) (lastOutput lastScratch : List ℕ) : Type 0 where

@@ -18,15 +18,15 @@ returns : tie.Need-returns
 unfolding plannedWork
 returns c = simp (sym (c .before .too-many .ensures) ∙ c .if1 .taken)
 
-few : (c : tie.Else1) → ltb 126 (length (c .before .before .before .args .lens .now)) ≡ false
-few c = sym (c .before .too-many .ensures) ∙ c .if1 .left
+not-many : (c : tie.Else1) → ltb 126 (length (c .before .before .before .args .lens .now)) ≡ false
+not-many c = sym (c .before .too-many .ensures) ∙ c .if1 .left
 
 returns-2 : tie.Need-returns-2
 unfolding plannedWork
-returns-2 c = simp (few (c .before), lt-ltb _ _ (c .if2 .taken))
+returns-2 c = simp (not-many (c .before), lt-ltb _ _ (c .if2 .taken))
 
 of-all-requires : tie.Need-of-all-requires
-of-all-requires c κs = ltb-false _ _ (few (c .before))
+of-all-requires c κs = ltb-false _ _ (not-many (c .before))
 
 add-result : tie.Need-add-result
 add-result c = omega (arith, c .of-all .ensures)
@@ -46,7 +46,7 @@ add-result-4 c = omega (arith, c .before .of-all .ensures, c .of .ensures)
 returns-3 : tie.Need-returns-3
 unfolding plannedWork
 returns-3 c =
-    simp (few (c .before .before .before), le-ltb _ _ (c .before .before .if2 .left)) (omega (arith, c .before .of-all .ensures .0, c .of .ensures))
+    simp (not-many (c .before .before .before), le-ltb _ _ (c .before .before .if2 .left)) (omega (arith, c .before .of-all .ensures .0, c .of .ensures))
 
 pub planned-work-spec : {M : Type 1} → statement M
 planned-work-spec =

@@ -6,7 +6,7 @@ use mathlib.Core.List.{[], _∷_}
 use Prim.Native.Nat.{_+_}
 use lib.Dec.{ltb}
 use borrow.Author.Needs.{needs}
-use Rattle.answers.specs.Answer.{row, first, numberAlone}
+use Rattle.answers.specs.Answer.{row, first, refusal}
 use Rattle.answers.proofs.Laws.{still-due, next-due}
 use Rattle.bounds.proofs.piece_to.Statement.{statement}
 use Rattle.bounds.proofs.piece_to.Tie as tie
@@ -26,16 +26,16 @@ returns c =
 enum-told-2 : tie.Need-enum-told-2
 enum-told-2 c = search needs
 
-passes-requires : tie.Need-passes-requires
-passes-requires c κs = search needs
+exceeds-requires : tie.Need-exceeds-requires
+exceeds-requires c κs = search needs
 
 -- past the piece the output decides
-by-output : (c : tie.After-passes) (t : Bool)
+by-output : (c : tie.After-exceeds) (t : Bool)
     → let args = c .before .before .before .before .args in
-    c .passes .result ≡ t → numberAlone (cond t 6 0) ≡ numberAlone (first (row 9 (not (args .fits)) ∷ row 4 (ltb (args .most) (args .used + args .n)) ∷ row 6 (ltb (args .output) (args .at + args .n)) ∷ []))
+    c .exceeds .result ≡ t → refusal (cond t 6 0) ≡ refusal (first (row 9 (not (args .fits)) ∷ row 4 (ltb (args .most) (args .used + args .n)) ∷ row 6 (ltb (args .output) (args .at + args .n)) ∷ []))
 by-output c t told =
     let args = c .before .before .before .before .args in
-    sym (ap (λ (b : Bool). numberAlone (cond b 6 0)) (sym (c .passes .ensures) ∙ told))
+    sym (ap (λ (b : Bool). refusal (cond b 6 0)) (sym (c .exceeds .ensures) ∙ told))
     ∙ next-due (c .before .before .before .piece .result) (row 9 (not (args .fits)) ∷ row 4 (ltb (args .most) (args .used + args .n)) ∷ []) (row 6 (ltb (args .output) (args .at + args .n)) ∷ []) refl (c .before .before .match .keys2)
     (c .before .before .before .piece .ensures)
 
@@ -46,4 +46,4 @@ returns-3 : tie.Need-returns-3
 returns-3 c = by-output (c .before) _ (c .if1 .left)
 
 pub piece-to-spec : {M : Type 1} → statement M
-piece-to-spec = tie.close (tie.spec piece-requires enum-told returns enum-told-2 passes-requires returns-2 returns-3)
+piece-to-spec = tie.close (tie.spec piece-requires enum-told returns enum-told-2 exceeds-requires returns-2 returns-3)

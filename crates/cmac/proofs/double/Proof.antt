@@ -6,7 +6,7 @@ use Prim.Native.Nat.{ℕ}
 use borrow.Author.Tests.{lt-ltb, le-ltb}
 use borrow.Author.Needs.{needs}
 use Rattle.octets.specs.Octets.{xors}
-use Rattle.cmac.specs.Cmac.{remainder, double}
+use Rattle.cmac.specs.Cmac.{R, double}
 use Rattle.cmac.proofs.double.Statement.{statement}
 use Rattle.cmac.proofs.double.Tie as tie
 
@@ -25,7 +25,7 @@ xor-block-requires c κs = search needs
 
 returns-2 : tie.Need-returns-2
 unfolding double
-returns-2 c = simp (le-ltb _ _ (c .before .if1 .left)) (c .xor-block .ensures ∙ ap (λ (l : List ℕ). xors l remainder) (c .before .before .shift-left .ensures))
+returns-2 c = simp (le-ltb _ _ (c .before .if1 .left)) (c .xor-block .ensures ∙ ap (λ (l : List ℕ). xors l R) (c .before .before .shift-left .ensures))
 
 pub double-spec : {M : Type 1} → statement M
 double-spec =

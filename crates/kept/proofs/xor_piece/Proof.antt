@@ -19,14 +19,14 @@ short : (start : tie.Start) → length (start .args .dst .now) < 2 ^ 64
 short start = search needs
 
 -- the kept block has no byte for what is no part of the piece
-few : (c : tie.After-from-kept) → c .from-kept .result ≤ length (c .before .before .before .args .piece .now)
-few c = omega (arith, c .from-kept .ensures)
+within : (c : tie.After-from-kept) → c .from-kept .result ≤ length (c .before .before .before .args .piece .now)
+within c = omega (arith, c .from-kept .ensures)
 
 from-kept-requires : tie.Need-from-kept-requires
 from-kept-requires c κs = search needs
 
 slice-aggregate-xor-at : tie.Need-slice-aggregate-xor-at
-slice-aggregate-xor-at c = simp length-take (omega (arith, few (c .before .before)))
+slice-aggregate-xor-at c = simp length-take (omega (arith, within (c .before .before)))
 
 sub-xor-at : tie.Need-sub-xor-at
 sub-xor-at c = omega arith
@@ -41,14 +41,14 @@ xor-at-requires : tie.Need-xor-at-requires
 xor-at-requires c κs =
     let had = c .before .before .before .before in
     let start = had .before .before .before in (
-      simp length-take (omega (arith, few had, start .pre .2)),
+      simp length-take (omega (arith, within had, start .pre .2)),
       simp (length-take, length-drop) (omega (arith, had .from-kept .ensures, kept-length start)),
     )
 
 add-still-kept : tie.Need-add-still-kept
 add-still-kept c =
     let had = c .before .before .before .before .before .before .before .before in
-    omega (arith, few had, had .before .before .before .pre .1)
+    omega (arith, within had, had .before .before .before .pre .1)
 
 still-kept-requires : tie.Need-still-kept-requires
 still-kept-requires c κs = search needs
@@ -80,13 +80,13 @@ engine-requires c κs = search needs
 add-i : tie.Need-add-i
 add-i c =
     let had = c .before .before .before .before .before .before .before .before .before in
-    omega (arith, few had, had .before .before .before .pre .1)
+    omega (arith, within had, had .before .before .before .pre .1)
 
 sub-xor-from : tie.Need-sub-xor-from
-sub-xor-from c = few (c .before .before .before .before .before .before .before .before .before .before)
+sub-xor-from c = within (c .before .before .before .before .before .before .before .before .before .before)
 
 part-xor-from-start : tie.Need-part-xor-from-start
-part-xor-from-start c = few (c .before .before .before .before .before .before .before .before .before .before)
+part-xor-from-start c = within (c .before .before .before .before .before .before .before .before .before .before)
 
 part-xor-from-end : tie.Need-part-xor-from-end
 part-xor-from-end c = search needs
@@ -95,7 +95,7 @@ add-xor-from : tie.Need-add-xor-from
 add-xor-from c =
     let had = c .before .before .before .before .before .before .before .before .before .before .before .before in
     let start = had .before .before .before in
-    omega (arith, few had, start .pre .2, short start)
+    omega (arith, within had, start .pre .2, short start)
 
 xor-from-requires : tie.Need-xor-from-requires
 xor-from-requires c κs =
@@ -104,8 +104,8 @@ xor-from-requires c κs =
     let start = had .before .before .before in (
       c .before .before .before .engine .ensures,
       start .pre .0,
-      omega (arith, few had, start .pre .1),
-      simp (length-take, length-drop) (omega (arith, few had, start .pre .2, wrote .xor-at .kept)),
+      omega (arith, within had, start .pre .1),
+      simp (length-take, length-drop) (omega (arith, within had, start .pre .2, wrote .xor-at .kept)),
     )
 
 same-length-2 : tie.Need-same-length-2

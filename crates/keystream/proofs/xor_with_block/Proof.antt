@@ -7,16 +7,16 @@ use lib.ListN.{length}
 use borrow.Author.Needs.{needs}
 use Rattle.aes.specs.Cipher.{cipher}
 use Rattle.aes.proofs.Widths.{length-cipher}
-use Rattle.counter.specs.Counter.{clear, plus}
+use Rattle.counter.specs.Counter.{initialCounter, counterBlock}
 use Rattle.keystream.proofs.Writing.{xorStream-piece}
 use Rattle.keystream.proofs.xor_with_block.Statement.{statement}
 use Rattle.keystream.proofs.xor_with_block.Tie as tie
 
-clear-requires : tie.Need-clear-requires
-clear-requires c κs = search needs
+initial-counter-requires : tie.Need-initial-counter-requires
+initial-counter-requires c κs = search needs
 
-plus-requires : tie.Need-plus-requires
-plus-requires c κs = search needs
+counter-block-requires : tie.Need-counter-block-requires
+counter-block-requires c κs = search needs
 
 encrypt-requires : tie.Need-encrypt-requires
 encrypt-requires c κs = search needs
@@ -39,7 +39,7 @@ returns c =
     let made = wrote .before .before .before .before in
     let start = made .before .before .before .before .before in
     let args = start .args in
-    let count : made .before .plus .result ≡ plus (clear (args .v)) (args .i) = made .before .plus .ensures ∙ ap (λ (q : List ℕ). plus q (args .i)) (made .before .before .clear .ensures) in
+    let count : made .before .counter-block .result ≡ counterBlock (initialCounter (args .v)) (args .i) = made .before .counter-block .ensures ∙ ap (λ (q : List ℕ). counterBlock q (args .i)) (made .before .before .initial-counter .ensures) in
     let block = made .encrypt .ensures .block ∙ ap (cipher _ _) count in (
       record { block = block; work = made .encrypt .ensures .work },
       xorStream-piece _ (length-cipher (args .width) (args .keys .now)) _ _ _ _ _ (start .pre .2) block (wrote .xor-at .ensures),
@@ -49,8 +49,8 @@ pub xor-with-block-spec : {M : Type 1} → statement M
 xor-with-block-spec =
     tie.close
     (tie.spec
-    clear-requires
-    plus-requires
+    initial-counter-requires
+    counter-block-requires
     encrypt-requires
     slice-aggregate-xor-at
     xor-at-requires

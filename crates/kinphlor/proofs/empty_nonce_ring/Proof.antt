@@ -5,7 +5,7 @@ use mathlib.Core.Bool.{Bool, _&&_}
 use lib.Dec.{eqb}
 use borrow.Author.Needs.{needs}
 use borrow.Author.Tests.{eq-eqb, ne-eqb}
-use Rattle.answers.specs.Answer.{Outcome, first, numberAlone, outcomeOf}
+use Rattle.answers.specs.Answer.{Outcome, first, refusal, outcomeOf}
 use Rattle.answers.proofs.Laws.{told-refused, passed}
 use Rattle.whole.specs.Ring.{ringRows}
 use Rattle.kinphlor.specs.Interface.{emptyNonceRing}
@@ -16,7 +16,7 @@ judge-ring-requires : tie.Need-judge-ring-requires
 judge-ring-requires c κs = search needs
 
 -- the given ring is what was judged
-judged : (c : tie.After-judge-ring) → outcomeOf (c .judge-ring .result) 0 ≡ numberAlone (first (ringRows (c .before .args .key-len) (c .before .args .ring-len)))
+judged : (c : tie.After-judge-ring) → outcomeOf (c .judge-ring .result) 0 ≡ refusal (first (ringRows (c .before .args .key-len) (c .before .args .ring-len)))
 judged c = c .judge-ring .ensures
 
 enum-told : tie.Need-enum-told

@@ -56,28 +56,28 @@ enum-told-2 c = search needs
 div-slots : tie.Need-div-slots
 div-slots c = key-length-some _ (whole (c .before) .0)
 
-first-slot-requires : tie.Need-first-slot-requires
-first-slot-requires c κs =
+try-slots-requires : tie.Need-try-slots-requires
+try-slots-requires c κs =
     let a = admits (c .before .before) in
-    (whole (c .before .before) .0, whole (c .before .before) .1 .whole, whole (c .before .before) .1 .most, omega (arith, a .listed), a .few, a .tagged, omega (arith, a .scratchy))
+    (whole (c .before .before) .0, whole (c .before .before) .1 .whole, whole (c .before .before) .1 .most, omega (arith, a .sums), a .countFits, a .tagged, omega (arith, a .scratchFits))
 
 given-slot-requires : tie.Need-given-slot-requires
 given-slot-requires c κs = search needs
 
-sub-deliver : tie.Need-sub-deliver
-sub-deliver c = admits (c .before .before .before .before .before .before .before) .tagged
+sub-release-or-wipe : tie.Need-sub-release-or-wipe
+sub-release-or-wipe c = admits (c .before .before .before .before .before .before .before) .tagged
 
-deliver-requires : tie.Need-deliver-requires
-deliver-requires c κs =
+release-or-wipe-requires : tie.Need-release-or-wipe-requires
+release-or-wipe-requires c κs =
     let a = admits (c .before .before .before .before .before .before .before .before .before) in
-    (a .roomy, omega (arith, a .scratchy, c .before .before .before .before .before .before .first-slot .kept .1 .1 .1 .1 .1 .1 .0))
+    (a .outputFits, omega (arith, a .scratchFits, c .before .before .before .before .before .before .try-slots .kept .1 .1 .1 .1 .1 .1 .0))
 
 -- the answer is that of a slot that was found, or of none
-told : (c : tie.After-deliver)
+told : (c : tie.After-release-or-wipe)
     → let searched = c .before .before .before .before .before .before .before in
     let a = searched .before .before .before .before .before .before .before .before .before .before .before .args in
-    (w : ℕ) → outcomeOf (c .deliver .result) w ≡ cond (ltb (searched .first-slot .result .slot) (slotCount (a .key-len) (length (a .ring .now)))) (success (length (a .input .now) - 16) w) (forged w)
-told c = c .deliver .ensures .0
+    (w : ℕ) → outcomeOf (c .release-or-wipe .result) w ≡ cond (ltb (searched .try-slots .result .slot) (slotCount (a .key-len) (length (a .ring .now)))) (success (length (a .input .now) - 16) w) (forged w)
+told c = c .release-or-wipe .ensures .0
 
 same-length : tie.Need-same-length
 same-length c = search needs
@@ -90,8 +90,8 @@ returns-2 c =
     let done = c .before .before .before .before in
     let given = done .before .before .before .before in
     let searched = given .before .before .before in
-    let search = searched .first-slot .ensures in
-    ring-delivered _ _ _ _ _ _ _ (judged (searched .before .before .before)) _ (search .0) _ _ _ _ (given .given-slot .ensures) refl (search .1 .0) (told done) (done .deliver .ensures .1 .0) (search .1 .1) (done .deliver .ensures .1 .1)
+    let search = searched .try-slots .ensures in
+    ring-delivered _ _ _ _ _ _ _ (judged (searched .before .before .before)) _ (search .0) _ _ _ _ (given .given-slot .ensures) refl (search .1 .0) (told done) (done .release-or-wipe .ensures .1 .0) (search .1 .1) (done .release-or-wipe .ensures .1 .1)
 
 pub open-ring-spec : {M : Type 1} → statement M
 open-ring-spec =
@@ -102,10 +102,10 @@ open-ring-spec =
     returns
     enum-told-2
     div-slots
-    first-slot-requires
+    try-slots-requires
     given-slot-requires
-    sub-deliver
-    deliver-requires
+    sub-release-or-wipe
+    release-or-wipe-requires
     same-length
     same-length-2
     returns-2)

@@ -37,18 +37,18 @@ enum-told-2 c = search needs
 engine-requires : tie.Need-engine-requires
 engine-requires c κs = search needs
 
-opens-requires : tie.Need-opens-requires
-opens-requires c κs =
+decrypt-and-verify-requires : tie.Need-decrypt-and-verify-requires
+decrypt-and-verify-requires c κs =
     let a = admits (c .before .before .before .before) in
-    (c .before .before .engine .ensures, (a .keyed, omega (arith, a .listed), a .few), a .tagged, omega (arith, a .scratchy))
+    (c .before .before .engine .ensures, (a .keyed, omega (arith, a .sums), a .countFits), a .tagged, omega (arith, a .scratchFits))
 
-sub-deliver : tie.Need-sub-deliver
-sub-deliver c = admits (c .before .before .before .before .before .before .before) .tagged
+sub-release-or-wipe : tie.Need-sub-release-or-wipe
+sub-release-or-wipe c = admits (c .before .before .before .before .before .before .before) .tagged
 
-deliver-requires : tie.Need-deliver-requires
-deliver-requires c κs =
+release-or-wipe-requires : tie.Need-release-or-wipe-requires
+release-or-wipe-requires c κs =
     let a = admits (c .before .before .before .before .before .before .before .before .before) in
-    (a .roomy, omega (arith, a .scratchy, c .before .before .before .before .opens .kept .1 .1 .1 .1 .1 .0))
+    (a .outputFits, omega (arith, a .scratchFits, c .before .before .before .before .decrypt-and-verify .kept .1 .1 .1 .1 .1 .0))
 
 same-length : tie.Need-same-length
 same-length c = search needs
@@ -66,11 +66,11 @@ returns-2 c =
     let y = args .input .now in
     let text = opened key y in
     let long : length text ≡ length y - 16 = length-opened key y in
-    let used = opening .opens .last .1 .1 .1 .1 .1 .0 in
-    let tried = opening .opens .ensures in
-    open-delivered _ _ _ _ _ _ (opening .opens .result .genuine) (sym (tried .0)) (judged matched) _ _ _ _ (done .deliver .ensures .0) (tried .1 .0)
-    (λ _. text-read text (args .scratch .now) (tried .1 .1) (sym long) (omega (arith, long, admits matched .scratchy))) (done .deliver .ensures .1 .0)
-    (scratch-wiped (args .scratch .now) used (length y - 16) (put-rest (args .scratch .now) text (tried .1 .1) (sym long)) (done .deliver .ensures .1 .1))
+    let used = opening .decrypt-and-verify .last .1 .1 .1 .1 .1 .0 in
+    let tried = opening .decrypt-and-verify .ensures in
+    open-delivered _ _ _ _ _ _ (opening .decrypt-and-verify .result .genuine) (sym (tried .0)) (judged matched) _ _ _ _ (done .release-or-wipe .ensures .0) (tried .1 .0)
+    (λ _. text-read text (args .scratch .now) (tried .1 .1) (sym long) (omega (arith, long, admits matched .scratchFits))) (done .release-or-wipe .ensures .1 .0)
+    (scratch-wiped (args .scratch .now) used (length y - 16) (put-rest (args .scratch .now) text (tried .1 .1) (sym long)) (done .release-or-wipe .ensures .1 .1))
 
 pub open-spec : {M : Type 1} → statement M
 open-spec =
@@ -81,9 +81,9 @@ open-spec =
     returns
     enum-told-2
     engine-requires
-    opens-requires
-    sub-deliver
-    deliver-requires
+    decrypt-and-verify-requires
+    sub-release-or-wipe
+    release-or-wipe-requires
     same-length
     same-length-2
     returns-2)

@@ -41,7 +41,7 @@ enum-told-2 c = search needs
 seal-admitted-requires : tie.Need-seal-admitted-requires
 seal-admitted-requires c κs =
     let a = admits (c .before .before) in
-    ((a .keyed, omega (arith, a .listed), a .few), omega (arith, a .roomy))
+    ((a .keyed, omega (arith, a .sums), a .countFits), omega (arith, a .outputFits))
 
 scratch-need-requires : tie.Need-scratch-need-requires
 scratch-need-requires c κs = search needs
@@ -49,7 +49,7 @@ scratch-need-requires c κs = search needs
 zero-at-requires : tie.Need-zero-at-requires
 zero-at-requires c κs =
     let a = admits (c .before .before .before .before .before .before .before) in
-    omega (arith, a .scratchy, c .scratch-need .ensures)
+    omega (arith, a .scratchFits, c .scratch-need .ensures)
 
 add-t13 : tie.Need-add-t13
 add-t13 c = search needs

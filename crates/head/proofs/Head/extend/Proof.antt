@@ -36,7 +36,7 @@ extended-requires : tie.Need-extended-requires
 extended-requires c κs =
     let args = c .before .before .before .before .before .args in
     let a = rest-admits (args .self) (args .lens .now) (length (args .rest .now)) (none (c .before)) in
-    (a .width, a .few, omega (arith, a .listed))
+    (a .width, a .countFits, omega (arith, a .sums))
 
 returns-2 : tie.Need-returns-2
 unfolding extendHead

@@ -24,24 +24,24 @@ fitting : (c : tie.After-struct-known) → not (fitsHead (c .before .before .bef
 fitting c = sym (ap not (c .before .before .fits2 .ensures)) ∙ c .before .if1 .left
 
 -- so it has few strings, and their sum with those that follow is told by a difference
-few : (c : tie.After-struct-known) → c .before .before .before .before .args .head .count ≤ 126
-few c = fit _ (not-false _ (fitting c)) .few
+count-fits : (c : tie.After-struct-known) → c .before .before .before .before .args .head .count ≤ 126
+count-fits c = fit _ (not-false _ (fitting c)) .countFits
 
 sub-if2 : tie.Need-sub-if2
-sub-if2 c = omega (arith, few c)
+sub-if2 c = omega (arith, count-fits c)
 
 returns-2 : tie.Need-returns-2
 returns-2 c =
     let args = c .before .before .before .before .before .args in
     let many : ltb (126 - args .head .count) (length (args .lens .now)) ≡ true = lt-ltb _ _ (c .if2 .taken) in
-    simp (fitting (c .before), sym (sum-passes _ _ _ (few (c .before))) ∙ many)
+    simp (fitting (c .before), sym (sum-passes _ _ _ (count-fits (c .before))) ∙ many)
 
 -- past 2 they are few together
 within : (c : tie.Else2) → let args = c .before .before .before .before .before .args in ltb 126 (args .head .count + length (args .lens .now)) ≡ false
 within c =
     let args = c .before .before .before .before .before .args in
-    let few-more : ltb (126 - args .head .count) (length (args .lens .now)) ≡ false = le-ltb _ _ (c .if2 .left) in
-    sym (sum-passes _ _ _ (few (c .before))) ∙ few-more
+    let fits-too : ltb (126 - args .head .count) (length (args .lens .now)) ≡ false = le-ltb _ _ (c .if2 .left) in
+    sym (sum-passes _ _ _ (count-fits (c .before))) ∙ fits-too
 
 sums-to-requires : tie.Need-sums-to-requires
 sums-to-requires c κs = search needs

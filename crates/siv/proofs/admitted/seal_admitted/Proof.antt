@@ -21,8 +21,8 @@ tag-of-requires c κs = search needs
 store-requires : tie.Need-store-requires
 store-requires c κs = search needs
 
-stream-requires : tie.Need-stream-requires
-stream-requires c κs = search needs
+xor-key-stream-requires : tie.Need-xor-key-stream-requires
+xor-key-stream-requires c κs = search needs
 
 same-length : tie.Need-same-length
 same-length c = search needs
@@ -42,7 +42,7 @@ add-result c =
     let tagged = streamed .before .before .before .before .before .before .before .before in
     let start = tagged .before .before .before .before .before .before .before .before in
     let args = start .args in
-    omega (arith, streamed .stream .ensures .0 ∙ streamed-lengths (args .input .now), tagged .tag-of .ensures .work ∙ tag-of-lengths _ _ (args .lens .now) (args .input .now) (start .pre .0 .1), blocks-most (args .lens .now), start .pre .0 .1, start .pre .0 .2, short-header start, short-text start)
+    omega (arith, streamed .xor-key-stream .ensures .0 ∙ streamed-lengths (args .input .now), tagged .tag-of .ensures .work ∙ tag-of-lengths _ _ (args .lens .now) (args .input .now) (start .pre .0 .1), blocks-most (args .lens .now), start .pre .0 .1, start .pre .0 .2, short-header start, short-text start)
 
 returns : tie.Need-returns
 unfolding sealedWork
@@ -50,7 +50,7 @@ returns c =
     let wrote = c .before .before .before in
     let tagged = wrote .before .before .before .before .before .before .before .before in
     let start = tagged .before .before .before .before .before .before .before .before in
-    let text = wrote .stream .ensures in
+    let text = wrote .xor-key-stream .ensures in
     let tag = tagged .tag-of .ensures in (
       ap₂ _+_ (tag .work) (text .0),
       sealed-written _ _ _ _ (tag .block) (tag-length tagged) (start .pre .1) (wrote .before .before .before .before .before .store .ensures) (text .1),
@@ -59,4 +59,4 @@ returns c =
 pub seal-admitted-spec : {M : Type 1} → statement M
 seal-admitted-spec =
     tie.close
-    (tie.spec engine-requires tag-of-requires store-requires stream-requires add-result same-length returns)
+    (tie.spec engine-requires tag-of-requires store-requires xor-key-stream-requires add-result same-length returns)

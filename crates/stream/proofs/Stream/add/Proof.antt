@@ -3,7 +3,7 @@
 use mathlib.Core.Path.{_≡_, refl, ap}
 use lib.ListN.{length}
 use borrow.Author.Needs.{needs}
-use Rattle.answers.specs.Answer.{outcomeOf, success, numberAlone, first}
+use Rattle.answers.specs.Answer.{outcomeOf, success, refusal, first}
 use Rattle.answers.proofs.Laws.{told-refused, passed}
 use Rattle.stream.specs.Steps.{addRows, addStep}
 use Rattle.stream.proofs.Laws.{judged-by, refused, done, add-admits}
@@ -12,7 +12,7 @@ use Rattle.stream.proofs.Stream.add.Tie as tie
 
 judged : (c : tie.After-piece)
     → let args = c .before .before .before .args in
-    outcomeOf (c .piece .result) 0 ≡ numberAlone (first (addRows (args .self) (length (args .piece .now))))
+    outcomeOf (c .piece .result) 0 ≡ refusal (first (addRows (args .self) (length (args .piece .now))))
 judged c = judged-by 1 _ _ (c .before .fits2 .ensures) (c .piece .ensures)
 
 none : (c : tie.At-match-keys2) → let args = c .before .before .before .before .args in first (addRows (args .self) (length (args .piece .now))) ≡ 0

@@ -19,14 +19,14 @@ is-tag-requires c κs = search needs
 judge-header-requires : tie.Need-judge-header-requires
 judge-header-requires c κs = search needs
 
-untagged-requires : tie.Need-untagged-requires
-untagged-requires c κs = search needs
+refuse-tag-requires : tie.Need-refuse-tag-requires
+refuse-tag-requires c κs = search needs
 
 returns : tie.Need-returns
 unfolding beginOpener
 returns c =
     let args = c .before .before .before .before .before .before .before .before .args in
-    begins-untagged (headerRows (length (args .key .now)) (args .lens .now) (length (args .header .now))) refl (headOfWork (strings (args .header .now) (args .lens .now))) (headOf (args .key .now) (strings (args .header .now) (args .lens .now))) (args .tag .now) (c .before .judge-header .result) (sym (c .before .before .before .is-tag .ensures) ∙ not-true _ (c .before .before .if1 .taken)) (c .before .judge-header .ensures) (c .untagged .ensures)
+    begins-untagged (headerRows (length (args .key .now)) (args .lens .now) (length (args .header .now))) refl (headOfWork (strings (args .header .now) (args .lens .now))) (headOf (args .key .now) (strings (args .header .now) (args .lens .now))) (args .tag .now) (c .before .judge-header .result) (sym (c .before .before .before .is-tag .ensures) ∙ not-true _ (c .before .before .if1 .taken)) (c .before .judge-header .ensures) (c .refuse-tag .ensures)
 
 tagged : (c : tie.Else1) → length (c .before .before .before .before .before .before .args .tag .now) ≡ 16
 tagged c = eqb-true _ 16 (sym (c .before .is-tag .ensures) ∙ not-false _ (c .if1 .left))
@@ -37,14 +37,14 @@ make-requires c κs = search needs
 load-requires : tie.Need-load-requires
 load-requires c κs = omega (arith, tagged (c .before))
 
-begun-requires : tie.Need-begun-requires
-begun-requires c κs = search needs
+begin-with-requires : tie.Need-begin-with-requires
+begin-with-requires c κs = search needs
 
 returns-2 : tie.Need-returns-2
 unfolding beginOpener makeHead
 returns-2 c =
     let args = c .before .before .before .before .before .before .before .before .before .args in
-    begins-tagged (headerRows (length (args .key .now)) (args .lens .now) (length (args .header .now))) refl (headOfWork (strings (args .header .now) (args .lens .now))) (headOf (args .key .now) (strings (args .header .now) (args .lens .now))) (args .tag .now) (c .before .before .make .result) (c .before .load .result) (tagged (c .before .before .before)) (c .before .load .ensures) (c .before .before .make .ensures) (c .begun .ensures)
+    begins-tagged (headerRows (length (args .key .now)) (args .lens .now) (length (args .header .now))) refl (headOfWork (strings (args .header .now) (args .lens .now))) (headOf (args .key .now) (strings (args .header .now) (args .lens .now))) (args .tag .now) (c .before .before .make .result) (c .before .load .result) (tagged (c .before .before .before)) (c .before .load .ensures) (c .before .before .make .ensures) (c .begin-with .ensures)
 
 pub begin-opener-spec : {M : Type 1} → statement M
 begin-opener-spec =
@@ -52,9 +52,9 @@ begin-opener-spec =
     (tie.spec
     is-tag-requires
     judge-header-requires
-    untagged-requires
+    refuse-tag-requires
     returns
     make-requires
     load-requires
-    begun-requires
+    begin-with-requires
     returns-2)

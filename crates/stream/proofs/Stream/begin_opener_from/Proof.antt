@@ -18,14 +18,14 @@ is-tag-requires c κs = search needs
 judge-rest-requires : tie.Need-judge-rest-requires
 judge-rest-requires c κs = search needs
 
-untagged-requires : tie.Need-untagged-requires
-untagged-requires c κs = search needs
+refuse-tag-requires : tie.Need-refuse-tag-requires
+refuse-tag-requires c κs = search needs
 
 returns : tie.Need-returns
 unfolding beginOpenerFrom
 returns c =
     let args = c .before .before .before .before .before .before .before .args in
-    begins-untagged (restRows (args .head) (args .lens .now) (length (args .rest .now))) refl (extendedWork (strings (args .rest .now) (args .lens .now))) (extended (args .head) (strings (args .rest .now) (args .lens .now))) (args .tag .now) (c .before .judge-rest .result) (sym (c .before .before .before .is-tag .ensures) ∙ not-true _ (c .before .before .if1 .taken)) (c .before .judge-rest .ensures) (c .untagged .ensures)
+    begins-untagged (restRows (args .head) (args .lens .now) (length (args .rest .now))) refl (extendedWork (strings (args .rest .now) (args .lens .now))) (extended (args .head) (strings (args .rest .now) (args .lens .now))) (args .tag .now) (c .before .judge-rest .result) (sym (c .before .before .before .is-tag .ensures) ∙ not-true _ (c .before .before .if1 .taken)) (c .before .judge-rest .ensures) (c .refuse-tag .ensures)
 
 tagged : (c : tie.Else1) → length (c .before .before .before .before .before .args .tag .now) ≡ 16
 tagged c = eqb-true _ 16 (sym (c .before .is-tag .ensures) ∙ not-false _ (c .if1 .left))
@@ -36,14 +36,14 @@ extend-requires c κs = search needs
 load-requires : tie.Need-load-requires
 load-requires c κs = omega (arith, tagged (c .before))
 
-begun-requires : tie.Need-begun-requires
-begun-requires c κs = search needs
+begin-with-requires : tie.Need-begin-with-requires
+begin-with-requires c κs = search needs
 
 returns-2 : tie.Need-returns-2
 unfolding beginOpenerFrom extendHead
 returns-2 c =
     let args = c .before .before .before .before .before .before .before .before .args in
-    begins-tagged (restRows (args .head) (args .lens .now) (length (args .rest .now))) refl (extendedWork (strings (args .rest .now) (args .lens .now))) (extended (args .head) (strings (args .rest .now) (args .lens .now))) (args .tag .now) (c .before .before .extend .result) (c .before .load .result) (tagged (c .before .before .before)) (c .before .load .ensures) (c .before .before .extend .ensures) (c .begun .ensures)
+    begins-tagged (restRows (args .head) (args .lens .now) (length (args .rest .now))) refl (extendedWork (strings (args .rest .now) (args .lens .now))) (extended (args .head) (strings (args .rest .now) (args .lens .now))) (args .tag .now) (c .before .before .extend .result) (c .before .load .result) (tagged (c .before .before .before)) (c .before .load .ensures) (c .before .before .extend .ensures) (c .begin-with .ensures)
 
 pub begin-opener-from-spec : {M : Type 1} → statement M
 begin-opener-from-spec =
@@ -51,9 +51,9 @@ begin-opener-from-spec =
     (tie.spec
     is-tag-requires
     judge-rest-requires
-    untagged-requires
+    refuse-tag-requires
     returns
     extend-requires
     load-requires
-    begun-requires
+    begin-with-requires
     returns-2)

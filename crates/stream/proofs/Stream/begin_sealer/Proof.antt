@@ -14,14 +14,14 @@ use Rattle.stream.proofs.Stream.begin_sealer.Tie as tie
 make-requires : tie.Need-make-requires
 make-requires c κs = search needs
 
-begun-requires : tie.Need-begun-requires
-begun-requires c κs = search needs
+begin-with-requires : tie.Need-begin-with-requires
+begin-with-requires c κs = search needs
 
 returns : tie.Need-returns
 unfolding beginSealer makeHead
 returns c =
     let args = c .before .before .before .before .before .args in
-    begins (first (headerRows (length (args .key .now)) (args .lens .now) (length (args .header .now)))) (headOfWork (strings (args .header .now) (args .lens .now))) (headOf (args .key .now) (strings (args .header .now) (args .lens .now))) (c .before .make .result) _ _ (c .before .make .ensures) (c .begun .ensures)
+    begins (first (headerRows (length (args .key .now)) (args .lens .now) (length (args .header .now)))) (headOfWork (strings (args .header .now) (args .lens .now))) (headOf (args .key .now) (strings (args .header .now) (args .lens .now))) (c .before .make .result) _ _ (c .before .make .ensures) (c .begin-with .ensures)
 
 pub begin-sealer-spec : {M : Type 1} → statement M
-begin-sealer-spec = tie.close (tie.spec make-requires begun-requires returns)
+begin-sealer-spec = tie.close (tie.spec make-requires begin-with-requires returns)

@@ -13,14 +13,14 @@ use Rattle.stream.proofs.Stream.begin_sealer_from.Tie as tie
 extend-requires : tie.Need-extend-requires
 extend-requires c κs = search needs
 
-begun-requires : tie.Need-begun-requires
-begun-requires c κs = search needs
+begin-with-requires : tie.Need-begin-with-requires
+begin-with-requires c κs = search needs
 
 returns : tie.Need-returns
 unfolding beginSealerFrom extendHead
 returns c =
     let args = c .before .before .before .before .args in
-    begins (first (restRows (args .head) (args .lens .now) (length (args .rest .now)))) (extendedWork (strings (args .rest .now) (args .lens .now))) (extended (args .head) (strings (args .rest .now) (args .lens .now))) (c .before .extend .result) _ _ (c .before .extend .ensures) (c .begun .ensures)
+    begins (first (restRows (args .head) (args .lens .now) (length (args .rest .now)))) (extendedWork (strings (args .rest .now) (args .lens .now))) (extended (args .head) (strings (args .rest .now) (args .lens .now))) (c .before .extend .result) _ _ (c .before .extend .ensures) (c .begin-with .ensures)
 
 pub begin-sealer-from-spec : {M : Type 1} → statement M
-begin-sealer-from-spec = tie.close (tie.spec extend-requires begun-requires returns)
+begin-sealer-from-spec = tie.close (tie.spec extend-requires begin-with-requires returns)

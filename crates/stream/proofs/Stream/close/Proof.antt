@@ -5,7 +5,7 @@ use mathlib.Core.Bool.{Bool, not, cond}
 use borrow.Author.Needs.{needs}
 use Rattle.answers.specs.declared.Answer.the-variants.{Refused}
 use Rattle.answers.specs.declared.Refusal.the-variants.{State}
-use Rattle.answers.specs.Answer.{numberAlone}
+use Rattle.answers.specs.Answer.{refusal}
 use Rattle.answers.proofs.Laws.{refusal-number}
 use Rattle.stream.specs.Steps.{closeStep}
 use Rattle.stream.proofs.Laws.{refused, done}
@@ -28,7 +28,7 @@ returns-2 : tie.Need-returns-2
 unfolding closeStep
 returns-2 c =
     let unclosed = sym (c .before .closes .ensures) ∙ c .if1 .left in
-    refused (Refused State) _ _ _ _ (refusal-number State) (sym (ap (λ (t : Bool). numberAlone (cond (not t) 9 0)) unclosed))
+    refused (Refused State) _ _ _ _ (refusal-number State) (sym (ap (λ (t : Bool). refusal (cond (not t) 9 0)) unclosed))
 
 pub close-spec : {M : Type 1} → statement M
 close-spec = tie.close (tie.spec closes-requires ended-requires returns returns-2)

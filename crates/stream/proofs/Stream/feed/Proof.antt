@@ -10,7 +10,7 @@ use Rattle.cmac.specs.Cmac.{chainWork}
 use Rattle.cmac.proofs.Laws.{chain-work}
 use Rattle.keystream.specs.Pieces.{newBlocks, pieceWork}
 use Rattle.keystream.proofs.Laws.{stream-work}
-use Rattle.answers.specs.Answer.{outcomeOf, success, numberAlone, first}
+use Rattle.answers.specs.Answer.{outcomeOf, success, refusal, first}
 use Rattle.answers.proofs.Laws.{told-refused, passed}
 use Rattle.tail.specs.Tail.{leavingBlocks}
 use Rattle.tail.proofs.Laws.{cut}
@@ -22,7 +22,7 @@ use Rattle.stream.proofs.Stream.feed.Tie as tie
 
 judged : (c : tie.After-piece-to)
     → let args = c .before .before .before .before .args in
-    outcomeOf (c .piece-to .result) 0 ≡ numberAlone (first (feedRows (args .self) (length (args .piece .now)) (length (args .output .now))))
+    outcomeOf (c .piece-to .result) 0 ≡ refusal (first (feedRows (args .self) (length (args .piece .now)) (length (args .output .now))))
 judged c = judged-by 3 _ _ (c .before .fits2 .ensures) (c .piece-to .ensures)
 
 none : (c : tie.At-match-keys2)

@@ -7,7 +7,7 @@ use native.Mathlib.Omega.{arith}
 use lib.ListN.{length}
 use borrow.Author.Needs.{needs}
 use Rattle.octets.specs.Octets.{same}
-use Rattle.answers.specs.Answer.{outcomeOf, numberAlone, first}
+use Rattle.answers.specs.Answer.{outcomeOf, refusal, first}
 use Rattle.answers.proofs.Laws.{told-refused, passed}
 use Rattle.stream.specs.State.{tagOfState}
 use Rattle.stream.specs.Steps.{finishRows}
@@ -17,7 +17,7 @@ use Rattle.stream.proofs.Stream.finish.Tie as tie
 
 judged : (c : tie.After-room)
     → let args = c .before .before .before .args in
-    outcomeOf (c .room .result) 0 ≡ numberAlone (first (finishRows (args .self) (length (args .output .now))))
+    outcomeOf (c .room .result) 0 ≡ refusal (first (finishRows (args .self) (length (args .output .now))))
 judged c = judged-by 3 _ _ (c .before .fits2 .ensures) (c .room .ensures)
 
 none : (c : tie.At-match-keys2) → let args = c .before .before .before .before .args in first (finishRows (args .self) (length (args .output .now))) ≡ 0

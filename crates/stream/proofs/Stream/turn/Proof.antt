@@ -4,7 +4,7 @@ use mathlib.Core.Path.{_≡_, ap, _∙_}
 use lib.ListN.{length}
 use borrow.Author.Needs.{needs}
 use Rattle.octets.specs.Octets.{put}
-use Rattle.answers.specs.Answer.{outcomeOf, success, numberAlone, first}
+use Rattle.answers.specs.Answer.{outcomeOf, success, refusal, first}
 use Rattle.answers.proofs.Laws.{told-refused, passed}
 use Rattle.stream.specs.Steps.{turnRows, turned, turnStep}
 use Rattle.stream.proofs.Laws.{judged-by, refused, done, turn-admits}
@@ -13,7 +13,7 @@ use Rattle.stream.proofs.Stream.turn.Tie as tie
 
 judged : (c : tie.After-room)
     → let args = c .before .before .before .args in
-    outcomeOf (c .room .result) 0 ≡ numberAlone (first (turnRows (args .self) (length (args .output .now))))
+    outcomeOf (c .room .result) 0 ≡ refusal (first (turnRows (args .self) (length (args .output .now))))
 judged c = judged-by 1 _ _ (c .before .fits2 .ensures) (c .room .ensures)
 
 none : (c : tie.At-match-keys2) → let args = c .before .before .before .before .args in first (turnRows (args .self) (length (args .output .now))) ≡ 0

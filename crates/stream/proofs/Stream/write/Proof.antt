@@ -7,7 +7,7 @@ use native.Mathlib.Nat.{zero-add}
 use native.Mathlib.Omega.{arith}
 use lib.ListN.{length}
 use borrow.Author.Needs.{needs}
-use Rattle.answers.specs.Answer.{outcomeOf, success, numberAlone, first}
+use Rattle.answers.specs.Answer.{outcomeOf, success, refusal, first}
 use Rattle.answers.proofs.Laws.{told-refused, passed}
 use Rattle.stream.specs.State.{streamedWith}
 use Rattle.stream.specs.Steps.{writeRows, writeStep}
@@ -17,7 +17,7 @@ use Rattle.stream.proofs.Stream.write.Tie as tie
 
 judged : (c : tie.After-piece-to)
     → let args = c .before .before .before .before .args in
-    outcomeOf (c .piece-to .result) 0 ≡ numberAlone (first (writeRows (args .self) (length (args .piece .now)) (length (args .output .now))))
+    outcomeOf (c .piece-to .result) 0 ≡ refusal (first (writeRows (args .self) (length (args .piece .now)) (length (args .output .now))))
 judged c = simp zero-add at (judged-by 2 _ _ (c .before .fits2 .ensures) (c .piece-to .ensures))
 
 none : (c : tie.At-match-keys2)
