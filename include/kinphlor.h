@@ -6,8 +6,9 @@
  *
  * kinphlor_seal and kinphlor_open work under one key. kinphlor_open_ring is for the time in which keys change: it tries
  * the keys of a ring from slot 0 on and stops at the first that opens the record. With a ring of one key it does what
- * kinphlor_open does. Two functions below are for planning: kinphlor_planned_work tells how many blocks a record of known
- * lengths takes, kinphlor_worst_header how many its header strings can take at the most while their lengths are open.
+ * kinphlor_open does. Two functions below are for planning: kinphlor_planned_work tells how many blocks a record of
+ * known lengths takes, kinphlor_worst_header how many its header strings can take at the most while their lengths are
+ * open.
  *
  * seal, open and open_ring take the same arguments but for the keys. n is the plaintext's length.
  *
@@ -102,9 +103,9 @@ uint64_t kinphlor_open_ring(size_t key_len, const uint8_t *ring, size_t ring_len
 
 /*
  * The work of one record in blocks of 16 bytes that go through the cipher, from lengths alone: what kinphlor_seal takes
- * for n bytes of plaintext, and kinphlor_open for what that gives. It is 2, plus the blocks of associated data, nonce and
- * plaintext (a short last block is one, and an empty string has one), plus n divided by 16, rounded up. It is 0 where the
- * call is refused for one of these lengths: nonce_len is 0, or n is over 1,048,576.
+ * for n bytes of plaintext, and kinphlor_open for what that gives. It is 2, plus the blocks of associated data, nonce
+ * and plaintext (a short last block is one, and an empty string has one), plus n divided by 16, rounded up. It is 0
+ * where the call is refused for one of these lengths: nonce_len is 0, or n is over 1,048,576.
  *
  * kinphlor_open_ring takes it once for each key that it tries: slot + 1 times for a record that opens, as often as the
  * ring has keys for one that is forged, and so at most four times. A forged record takes as much as a genuine one; any
@@ -114,8 +115,9 @@ uint64_t kinphlor_planned_work(uint32_t ad_len, uint32_t nonce_len, size_t n);
 
 /*
  * The worst header, for whoever has not picked the header strings yet. Of all lists of count lengths that sum to
- * header_len, none of them under least, it writes one whose strings have the most blocks, counted as above. No other such
- * list has more. Several may have as many; which of them is written is left open, and may be another in a later version.
+ * header_len, none of them under least, it writes one whose strings have the most blocks, counted as above. No other
+ * such list has more. Several may have as many; which of them is written is left open, and may be another in a later
+ * version.
  *
  *   header_len  how many bytes the strings have together: at most 1,048,576, and not under count times least
  *   count       how many strings there are: 1 to 126
@@ -123,13 +125,13 @@ uint64_t kinphlor_planned_work(uint32_t ad_len, uint32_t nonce_len, size_t n);
  *   lens        126 places. The list's lengths come first; those past count become 0.
  *
  * The result is one number: the answer times 2 to the power 32, plus the list's blocks (kinphlor_number,
- * kinphlor_blocks). With other figures the answer is 12, and the blocks and all places are 0; there is no other refusal.
- * A record behind such a header takes the sum above, with these blocks for its strings.
+ * kinphlor_blocks). With other figures the answer is 12, and the blocks and all places are 0; there is no other
+ * refusal. A record behind such a header takes the sum above, with these blocks for its strings.
  *
- * The header of kinphlor_seal has two strings, of which the associated data may be empty and the nonce may not: ask with
- * count 2, least 0 and a header_len of 1 or more. If the second length is then 0, exchange the two: a list's blocks do not
- * depend on its order. More strings are for records that a program in Rattle seals. lens must be valid for 126 numbers
- * and not null.
+ * The header of kinphlor_seal has two strings, of which the associated data may be empty and the nonce may not: ask
+ * with count 2, least 0 and a header_len of 1 or more. If the second length is then 0, exchange the two: a list's
+ * blocks do not depend on its order. More strings are for records that a program in Rattle seals. lens must be valid
+ * for 126 numbers and not null.
  */
 uint64_t kinphlor_worst_header(size_t header_len, size_t count, size_t least, uint32_t lens[KINPHLOR_STRINGS_MAX]);
 

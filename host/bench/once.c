@@ -1,7 +1,7 @@
 /*
  * once KEY_LEN LENGTH CALLS: with 1 for CALLS it seals a record of that length; with 2 it also opens it; with 3 it also
- * opens it under a ring of four keys, the last of which is the record's; with 4 it also opens it with each of these keys
- * in turn. With 0 it does none of that. What two runs differ by is one call, or these four.
+ * opens it under a ring of four keys, the last of which is the record's; with 4 it also opens it with each of these
+ * keys in turn. With 0 it does none of that. What two runs differ by is one call, or these four.
  */
 #include <kinphlor.h>
 #include <stdlib.h>

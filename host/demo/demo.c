@@ -82,15 +82,15 @@ static uint64_t open_changing(const uint8_t ring[KEYS * KEY_LEN], struct lane la
 }
 
 /*
- * How many blocks go through the cipher to seal a record, or to try a key on one. A wall unit that knows a block's time,
- * and a call's own, knows by it when a record will be sealed.
+ * How many blocks go through the cipher to seal a record, or to try a key on one. A wall unit that knows a block's
+ * time, and a call's own, knows by it when a record will be sealed.
  */
 static uint64_t record_work(void) { return kinphlor_planned_work(AD_LEN, NONCE_LEN, RECORD_LEN); }
 
 /*
- * How many blocks the header can take at the most, for a gym that knows only how many strings and bytes it will have and
- * that no string is empty; 0 where these are out of bounds. Where strings may be empty, as kinphlor_seal's associated data
- * may, the least is 0 in place of 1.
+ * How many blocks the header can take at the most, for a gym that knows only how many strings and bytes it will have
+ * and that no string is empty; 0 where these are out of bounds. Where strings may be empty, as kinphlor_seal's
+ * associated data may, the least is 0 in place of 1.
  */
 static uint32_t worst_header(size_t strings, size_t bytes) {
     uint32_t lens[KINPHLOR_STRINGS_MAX];

@@ -1,5 +1,5 @@
-//! Whole calls with header lists: of 0 to 126 strings, held against libgcrypt, libcrypto and the model of steps, under one
-//! key and under rings; and of any form, held against the table of answers.
+//! Whole calls with header lists: of 0 to 126 strings, held against libgcrypt, libcrypto and the model of steps, under
+//! one key and under rings; and of any form, held against the table of answers.
 
 use crate::fields::Fields;
 use crate::model::Model;

@@ -1,6 +1,6 @@
-//! Lists of calls after any begin, from a key or from a head of the first header strings, each made from one seed: any call
-//! in any stage, pieces at the edges of blocks and of the limit, outputs long enough or not. Answers, work, output bytes and
-//! states are held against the model after every call.
+//! Lists of calls after any begin, from a key or from a head of the first header strings, each made from one seed: any
+//! call in any stage, pieces at the edges of blocks and of the limit, outputs long enough or not. Answers, work, output
+//! bytes and states are held against the model after every call.
 
 use crate::call::{Call, Kind};
 use crate::fields::Fields;
@@ -164,8 +164,8 @@ struct List<'a> {
     talks: bool,
 }
 
-/// Runs the list of a seed. Says whether its begin was an opener's, whether from a head, whether other bytes were written
-/// than were added, and whether it came to stage 0.
+/// Runs the list of a seed. Says whether its begin was an opener's, whether from a head, whether other bytes were
+/// written than were added, and whether it came to stage 0.
 fn run_list(pieces: &Pieces, seed: u64, talks: bool, tally: &mut Tally) -> [bool; 4] {
     let mut random = Random(seed);
     let start = Start::random(&mut random, &pieces.peers);
@@ -301,7 +301,8 @@ impl List<'_> {
         (kind, want.0)
     }
 
-    /// The state after a call: as it was where the call was refused, else the model's, with the call's own fields changed.
+    /// The state after a call: as it was where the call was refused, else the model's, with the call's own fields
+    /// changed.
     fn check_state(&self, what: impl Fn() -> String, kind: Kind, number: u64, before: &State) {
         if ![0, 8].contains(&number) {
             return self.state.check(|| format!("{}: refused", what()), before);
@@ -318,8 +319,8 @@ impl List<'_> {
         check::holds(|| format!("{}: changed {changed:?}", what()), changed.iter().all(|field| own.contains(field)));
     }
 
-    /// The list's end: the state is that of the same bytes in one piece, tag and writes are the first bytes of sealing, and
-    /// begin and all calls to stage 0 together took the whole call's work less the head's.
+    /// The list's end: the state is that of the same bytes in one piece, tag and writes are the first bytes of sealing,
+    /// and begin and all calls to stage 0 together took the whole call's work less the head's.
     fn end(&self) {
         let what = |does: &str| format!("{}, after {} calls: {does}", self.name(), self.calls);
         let one_piece = || what("the same bytes in one piece");

@@ -1,5 +1,5 @@
-//! The reference model, document 01's plain book: what any list of calls after a begin must answer. It sees the arguments of
-//! begin and of the calls, and no state, and has tags, openings and AES from the peers.
+//! The reference model, document 01's plain book: what any list of calls after a begin must answer. It sees the
+//! arguments of begin and of the calls, and no state, and has tags, openings and AES from the peers.
 
 use crate::call::{Call, Kind};
 use crate::counter;

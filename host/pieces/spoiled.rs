@@ -1,5 +1,5 @@
-//! Every call on states of every stage, good ones and ones with a field spoiled, held against the model of steps; and with
-//! that the table of answers for piecewise calls.
+//! Every call on states of every stage, good ones and ones with a field spoiled, held against the model of steps; and
+//! with that the table of answers for piecewise calls.
 
 use crate::call::{Call, Kind};
 use crate::probe::{self, Base};
@@ -44,7 +44,8 @@ pub fn run(Pieces { peers, random, noise, .. }: &mut Pieces) {
                 for (changed, state) in spoiled_states(random, &good) {
                     run_all(&state, changed, noise, &mut seen);
                 }
-                // At the limit outputs are long, so that of the changes only some are tried there, and of the tail lengths all.
+                // At the limit outputs are long, so that of the changes only some are tried there, and of the tail
+                // lengths all.
                 if [16, 31].contains(&total) {
                     let states = spoiled_states(random, &with_more(&good, LIMIT));
                     for (i, (changed, state)) in states.into_iter().enumerate() {
@@ -60,7 +61,8 @@ pub fn run(Pieces { peers, random, noise, .. }: &mut Pieces) {
     seen.check();
 }
 
-/// States with so many bytes added or fed: adding; writing with nothing, some and all written; feeding a genuine string.
+/// States with so many bytes added or fed: adding; writing with nothing, some and all written; feeding a genuine
+/// string.
 fn good_states(peers: &Peers, random: &mut Random, context: &Context, total: usize) -> Vec<State> {
     let plain = random.bytes(total);
     let sealed = peers.seal(context, &plain);

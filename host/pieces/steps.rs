@@ -1,6 +1,6 @@
-//! What each call makes of any state that it is given, by document 01's words on the calls and its table of answers. What
-//! 9 does not judge is used as it is: libcrypto's cipher takes a state's round keys as they stand, and a kept block is not
-//! made again. A call's work is the count of what went through that cipher.
+//! What each call makes of any state that it is given, by document 01's words on the calls and its table of answers.
+//! What 9 does not judge is used as it is: libcrypto's cipher takes a state's round keys as they stand, and a kept
+//! block is not made again. A call's work is the count of what went through that cipher.
 
 use crate::aes::{self, Cipher};
 use crate::call::{Call, Kind};
@@ -83,8 +83,8 @@ pub fn tag(state: &State) -> Block {
     mac(state).tag(state.block(D), state.block(Chain), tail)
 }
 
-/// A piece xored with the state's key stream: where a block is begun, with what is left of the kept one first, whatever it
-/// holds, and then with new blocks. The last block is kept, or zeros where it is used up.
+/// A piece xored with the state's key stream: where a block is begun, with what is left of the kept one first, whatever
+/// it holds, and then with new blocks. The last block is kept, or zeros where it is used up.
 fn xored(state: &mut State, piece: &[u8]) -> Vec<u8> {
     let place = state.stream_place();
     let end = place + piece.len();
@@ -108,8 +108,8 @@ fn absorb(state: &mut State, piece: &[u8]) {
     state.set_tail(tail);
 }
 
-/// The report on a call on which `first` is the first refusal that is due. The state becomes the one that is handed back,
-/// and what is written goes to `output`.
+/// The report on a call on which `first` is the first refusal that is due. The state becomes the one that is handed
+/// back, and what is written goes to `output`.
 pub fn step(state: &mut State, call: &Call, first: Option<u64>, output: &mut [u8]) -> Report {
     let ((number, length), work) = aes::counted(|| answer(state, call, first, output));
     (number, length, work)

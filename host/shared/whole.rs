@@ -77,8 +77,8 @@ pub enum Want<'a> {
     Forged,
 }
 
-/// One call: its answer, its work and every byte of the lent memory. Gives what is at the front of the output. What opens or is
-/// refused under a key is so under a ring of this one key, and of it among strangers.
+/// One call: its answer, its work and every byte of the lent memory. Gives what is at the front of the output. What
+/// opens or is refused under a key is so under a ring of this one key, and of it among strangers.
 pub fn run(make: Maker, function: Function, given: &Given, room: Room, want: Want) -> Vec<u8> {
     if function == Open {
         let function = OpenRing(given.key.len());

@@ -2,8 +2,8 @@
 ghost use mathlib.Core.Path.{_≡_};
 ghost use mathlib.Core.List.{_++_};
 ghost use Prim.Native.Nat.{_<_};
-ghost use Rattle.answers.specs.Answer.{outcomeOf, first, refusal};
-ghost use Rattle.whole.specs.Calls.{isKeyLength, scratchNeed, headerRows, sealRows, openRows};
+ghost use Rattle.answers.specs.Answer.{Judges};
+ghost use Rattle.whole.specs.Calls.{isKeyLength, scratchNeed, headerRows, sealRows, openRows, openingRows};
 ghost use Rattle.whole.specs.Ring.{isRing, ringRows};
 ghost use Rattle.whole.specs.Work.{plannedWork};
 use answers::Answer;
@@ -46,7 +46,7 @@ pub fn is_key_len(n: usize) -> bool
 
 // The refusals of key and header list.
 pub fn judge_header(key_len: usize, lens: &[u32], header_len: usize) -> Answer
-    ensures { λ r. ⌜ outcomeOf r 0 ≡ refusal (first (headerRows «key_len» (now (lens .entry)) «header_len»)) ⌝ }
+    ensures { λ r. ⌜ Judges (headerRows «key_len» (now (lens .entry)) «header_len») r ⌝ }
 {
     if !is_key_len(key_len) {
         return Answer::Refused(Refusal::KeyLength);
@@ -62,7 +62,7 @@ pub fn judge_header(key_len: usize, lens: &[u32], header_len: usize) -> Answer
 
 // The refusals of a plaintext's length and of the buffers lent to seal it.
 fn judge_plaintext(n: usize, output: usize, scratch: usize) -> Answer
-    ensures { λ r. ⌜ outcomeOf r 0 ≡ refusal (first (sealRows n output scratch)) ⌝ }
+    ensures { λ r. ⌜ Judges (sealRows n output scratch) r ⌝ }
 {
     if LIMIT < n {
         return Answer::Refused(Refusal::TooLong);
@@ -85,7 +85,7 @@ pub fn judge_seal(
     output: usize,
     scratch: usize,
 ) -> Answer
-    ensures { λ r. ⌜ outcomeOf r 0 ≡ refusal (first (headerRows «key_len» (now (lens .entry)) «header_len» ++ sealRows n output scratch)) ⌝ }
+    ensures { λ r. ⌜ Judges (headerRows «key_len» (now (lens .entry)) «header_len» ++ sealRows n output scratch) r ⌝ }
 {
     let answer = judge_header(key_len, lens, header_len);
     if let Answer::Refused(_) = answer {
@@ -96,7 +96,7 @@ pub fn judge_seal(
 
 // The refusals of a sealed string's length and of the buffers lent to open it.
 fn judge_sealed(y: usize, output: usize, scratch: usize) -> Answer
-    ensures { λ r. ⌜ outcomeOf r 0 ≡ refusal (first (openRows y output scratch)) ⌝ }
+    ensures { λ r. ⌜ Judges (openRows y output scratch) r ⌝ }
 {
     if y < TAG_LEN {
         return Answer::Refused(Refusal::SealedLength);
@@ -122,7 +122,7 @@ pub fn judge_open(
     output: usize,
     scratch: usize,
 ) -> Answer
-    ensures { λ r. ⌜ outcomeOf r 0 ≡ refusal (first (headerRows «key_len» (now (lens .entry)) «header_len» ++ openRows y output scratch)) ⌝ }
+    ensures { λ r. ⌜ Judges (openingRows «key_len» (now (lens .entry)) «header_len» y output scratch) r ⌝ }
 {
     let answer = judge_header(key_len, lens, header_len);
     if let Answer::Refused(_) = answer {
@@ -147,7 +147,7 @@ fn is_ring(key_len: usize, ring_len: usize) -> bool
 
 // The refusals of the stated key length and the ring.
 pub fn judge_ring(key_len: usize, ring_len: usize) -> Answer
-    ensures { λ r. ⌜ outcomeOf r 0 ≡ refusal (first (ringRows «key_len» «ring_len»)) ⌝ }
+    ensures { λ r. ⌜ Judges (ringRows «key_len» «ring_len») r ⌝ }
 {
     if !is_key_len(key_len) {
         return Answer::Refused(Refusal::KeyLength);
@@ -168,7 +168,7 @@ pub fn judge_open_ring(
     output: usize,
     scratch: usize,
 ) -> Answer
-    ensures { λ r. ⌜ outcomeOf r 0 ≡ refusal (first (ringRows «key_len» «ring_len» ++ headerRows «key_len» (now (lens .entry)) «header_len» ++ openRows y output scratch)) ⌝ }
+    ensures { λ r. ⌜ Judges (ringRows «key_len» «ring_len» ++ openingRows «key_len» (now (lens .entry)) «header_len» y output scratch) r ⌝ }
 {
     let answer = judge_ring(key_len, ring_len);
     if let Answer::Refused(_) = answer {
@@ -177,7 +177,8 @@ pub fn judge_open_ring(
     judge_open(key_len, lens, header_len, y, output, scratch)
 }
 
-// What whole sealing of n bytes under header strings of these lengths, or opening of what it gives, will report as its work; 0 for more than 126 strings and for n over the limit.
+// What whole sealing of n bytes under header strings of these lengths, or opening of that, will report as its work.
+// It is 0 for more than 126 strings and for n over the limit.
 pub fn planned_work(lens: &[u32], n: usize) -> usize
     ensures { λ r. ⌜ r ≡ plannedWork (now (lens .entry)) n ⌝ }
 {

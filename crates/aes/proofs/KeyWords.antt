@@ -33,12 +33,12 @@ turn-high nk i h k = div-lt-iff-lt-mul {k = nk} {x = i} {y = 11} (omega arith) .
 -- ---- the ways to make `temp`
 
 -- the code xors the round constant into the lowest byte
-constant : {x : ℕ} → x < 256 → WordIs x 0 0 0 x
+constant : {x : ℕ} → x < 0x100 → WordIs x 0 0 0 x
 constant {x} h = word-is x 0 0 0 x h (omega arith) (omega arith) (omega arith) (omega arith)
 
 module _ (nk i a b c d : ℕ) where
   pub temp-turn : {w s x : ℕ} → i % nk ≡ 0 → WordIs b c d a w
-      → WordIs (sbox (w % 256)) (sbox (w / 256 % 256)) (sbox (w / 65536 % 256)) (sbox (w / 16777216 % 256)) s → x < 256 → x ≡ power 2 (i / nk - 1)
+      → WordIs (sbox (w % 0x100)) (sbox (w / 0x100 % 0x100)) (sbox (w / 0x10000 % 0x100)) (sbox (w / 0x1000000 % 0x100)) s → x < 0x100 → x ≡ power 2 (i / nk - 1)
       → bytesOfWord (bitXor s x) ≡ temp nk i (a ∷ b ∷ c ∷ d ∷ [])
   unfolding temp xors
   temp-turn e u h l p =

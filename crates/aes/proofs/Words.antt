@@ -17,8 +17,8 @@ use Rattle.field.proofs.Laws.{top-bit, low-bits, twice-mul, thrice-mul}
 -- ---- an operation on bits works on each byte by itself
 
 module _ (op : ℕ → ℕ → ℕ) (shr : (a b k : ℕ) → op a b / 2 ^ k ≡ op (a / 2 ^ k) (b / 2 ^ k)) (rem : (a b k : ℕ) → op a b % 2 ^ k ≡ op (a % 2 ^ k) (b % 2 ^ k)) where
-  row : (v w k : ℕ) → op v w / 2 ^ k % 256 ≡ op (v / 2 ^ k % 256) (w / 2 ^ k % 256)
-  row v w k = ap (λ (n : ℕ). n % 256) (shr v w k) ∙ rem (v / 2 ^ k) (w / 2 ^ k) 8
+  row : (v w k : ℕ) → op v w / 2 ^ k % 0x100 ≡ op (v / 2 ^ k % 0x100) (w / 2 ^ k % 0x100)
+  row v w k = ap (λ (n : ℕ). n % 0x100) (shr v w k) ∙ rem (v / 2 ^ k) (w / 2 ^ k) 8
 
   word-op : {a b c d a′ b′ c′ d′ v w : ℕ} → WordIs a b c d v → WordIs a′ b′ c′ d′ w → WordIs (op a a′) (op b b′) (op c c′) (op d d′) (op v w)
   word-op {v = v} {w = w} p q =
@@ -36,63 +36,63 @@ word-and : {a b c d a′ b′ c′ d′ v w : ℕ} → WordIs a b c d v → Word
 word-and = word-op bitAnd and-shr and-mod
 
 -- a word has its own bytes
-pub own : (w : ℕ) → WordIs (w % 256) (w / 256 % 256) (w / 65536 % 256) (w / 16777216 % 256) w
+pub own : (w : ℕ) → WordIs (w % 0x100) (w / 0x100 % 0x100) (w / 0x10000 % 0x100) (w / 0x1000000 % 0x100) w
 own w = record { row0 = refl; row1 = refl; row2 = refl; row3 = refl }
 
 -- ---- a word and the sum of its bytes
 
-pub word-is : (a b c d w : ℕ) → a < 256 → b < 256 → c < 256 → d < 256 → w ≡ a + b * 256 + c * 65536 + d * 16777216 → WordIs a b c d w
+pub word-is : (a b c d w : ℕ) → a < 0x100 → b < 0x100 → c < 0x100 → d < 0x100 → w ≡ a + b * 0x100 + c * 0x10000 + d * 0x1000000 → WordIs a b c d w
 word-is a b c d w ha hb hc hd e = record { row0 = omega arith; row1 = omega arith; row2 = omega arith; row3 = omega arith }
 
 -- a number, its quotient by 256 and the rest
-digit : (n : ℕ) {q r : ℕ} → n / 256 ≡ q → n % 256 ≡ r → n ≡ q * 256 + r
-digit n e f = sym (div-add-mod' n 256) ∙ ap₂ (λ (x y : ℕ). x * 256 + y) e f
+digit : (n : ℕ) {q r : ℕ} → n / 0x100 ≡ q → n % 0x100 ≡ r → n ≡ q * 0x100 + r
+digit n e f = sym (div-add-mod' n 0x100) ∙ ap₂ (λ (x y : ℕ). x * 0x100 + y) e f
 
-join : (a b c : ℕ) {w x y z d : ℕ} → w ≡ x * 256 + a → x ≡ y * 256 + b → y ≡ z * 256 + c → z ≡ d → w ≡ a + b * 256 + c * 65536 + d * 16777216
+join : (a b c : ℕ) {w x y z d : ℕ} → w ≡ x * 0x100 + a → x ≡ y * 0x100 + b → y ≡ z * 0x100 + c → z ≡ d → w ≡ a + b * 0x100 + c * 0x10000 + d * 0x1000000
 join a b c p q r s = omega arith
 
-sum : {a b c d w : ℕ} → w < 2 ^ 32 → WordIs a b c d w → w ≡ a + b * 256 + c * 65536 + d * 16777216
+sum : {a b c d w : ℕ} → w < 2 ^ 32 → WordIs a b c d w → w ≡ a + b * 0x100 + c * 0x10000 + d * 0x1000000
 sum {a} {b} {c} {w = w} h p =
-    join a b c (digit w refl (p .row0)) (digit (w / 256) (div-div-eq-div-mul w 256 256) (p .row1))
-    (digit (w / 65536) (div-div-eq-div-mul w 65536 256) (p .row2))
-    (sym (mod-eq-of-lt (div-lt-iff-lt-mul {k = 16777216} {x = w} {y = 256} (omega arith) .1 (omega arith))) ∙ p .row3)
+    join a b c (digit w refl (p .row0)) (digit (w / 0x100) (div-div-eq-div-mul w 0x100 0x100) (p .row1))
+    (digit (w / 0x10000) (div-div-eq-div-mul w 0x10000 0x100) (p .row2))
+    (sym (mod-eq-of-lt (div-lt-iff-lt-mul {k = 0x1000000} {x = w} {y = 0x100} (omega arith) .1 (omega arith))) ∙ p .row3)
 
 -- ---- the code's ways to move the bytes of a word up
 
-module _ {a b c d : ℕ} (ha : a < 256) (hb : b < 256) (hc : c < 256) (hd : d < 256) (w : ℕ) (e : w ≡ a + b * 256 + c * 65536 + d * 16777216) where
-  moved1 : WordIs b c d a (w / 256 + w % 256 * 16777216)
+module _ {a b c d : ℕ} (ha : a < 0x100) (hb : b < 0x100) (hc : c < 0x100) (hd : d < 0x100) (w : ℕ) (e : w ≡ a + b * 0x100 + c * 0x10000 + d * 0x1000000) where
+  moved1 : WordIs b c d a (w / 0x100 + w % 0x100 * 0x1000000)
   moved1 = word-is _ _ _ _ _ hb hc hd ha (omega arith)
 
-  moved2 : WordIs c d a b (w / 65536 + w % 65536 * 65536)
+  moved2 : WordIs c d a b (w / 0x10000 + w % 0x10000 * 0x10000)
   moved2 = word-is _ _ _ _ _ hc hd ha hb (omega arith)
 
-  moved3 : WordIs d a b c (w / 16777216 + w % 16777216 * 256)
+  moved3 : WordIs d a b c (w / 0x1000000 + w % 0x1000000 * 0x100)
   moved3 = word-is _ _ _ _ _ hd ha hb hc (omega arith)
 
 -- what is moved up is the bytes of a word, whatever they are called
-pub moved-up : {a b c d w r : ℕ} → WordIs a b c d w → WordIs (w / 256 % 256) (w / 65536 % 256) (w / 16777216 % 256) (w % 256) r → WordIs b c d a r
+pub moved-up : {a b c d w r : ℕ} → WordIs a b c d w → WordIs (w / 0x100 % 0x100) (w / 0x10000 % 0x100) (w / 0x1000000 % 0x100) (w % 0x100) r → WordIs b c d a r
 moved-up p q = record { row0 = q .row0 ∙ p .row1; row1 = q .row1 ∙ p .row2; row2 = q .row2 ∙ p .row3; row3 = q .row3 ∙ p .row0 }
 
 module _ {a b c d w : ℕ} (h : w < 2 ^ 32) (p : WordIs a b c d w) where
-  a-byte : a < 256
+  a-byte : a < 0x100
   a-byte = omega (arith, p .row0)
 
-  b-byte : b < 256
+  b-byte : b < 0x100
   b-byte = omega (arith, p .row1)
 
-  c-byte : c < 256
+  c-byte : c < 0x100
   c-byte = omega (arith, p .row2)
 
-  d-byte : d < 256
+  d-byte : d < 0x100
   d-byte = omega (arith, p .row3)
 
-  pub up1-is : WordIs b c d a (w / 256 + w % 256 * 16777216)
+  pub up1-is : WordIs b c d a (w / 0x100 + w % 0x100 * 0x1000000)
   up1-is = moved1 a-byte b-byte c-byte d-byte w (sum h p)
 
-  pub up2-is : WordIs c d a b (w / 65536 + w % 65536 * 65536)
+  pub up2-is : WordIs c d a b (w / 0x10000 + w % 0x10000 * 0x10000)
   up2-is = moved2 a-byte b-byte c-byte d-byte w (sum h p)
 
-  pub up3-is : WordIs d a b c (w / 16777216 + w % 16777216 * 256)
+  pub up3-is : WordIs d a b c (w / 0x1000000 + w % 0x1000000 * 0x100)
   up3-is = moved3 a-byte b-byte c-byte d-byte w (sum h p)
 
   -- ---- twice each byte
@@ -100,37 +100,37 @@ module _ {a b c d w : ℕ} (h : w < 2 ^ 32) (p : WordIs a b c d w) where
   top : ℕ
   top = bitAnd w 0x80808080
 
-  tops : WordIs (bitAnd a 128) (bitAnd b 128) (bitAnd c 128) (bitAnd d 128) top
+  tops : WordIs (bitAnd a 0x80) (bitAnd b 0x80) (bitAnd c 0x80) (bitAnd d 0x80) top
   unfolding top
   tops = word-and p (own 0x80808080)
 
-  lows : WordIs (bitXor a (bitAnd a 128)) (bitXor b (bitAnd b 128)) (bitXor c (bitAnd c 128)) (bitXor d (bitAnd d 128)) (bitXor w top)
+  lows : WordIs (bitXor a (bitAnd a 0x80)) (bitXor b (bitAnd b 0x80)) (bitXor c (bitAnd c 0x80)) (bitXor d (bitAnd d 0x80)) (bitXor w top)
   lows = word-xor p tops
 
   top-lt : top < 2 ^ 32
   unfolding top
   top-lt = lt-of-le-of-lt (and-le-l w 0x80808080) h
 
-  top-sum : top ≡ a / 128 * 128 + b / 128 * 128 * 256 + c / 128 * 128 * 65536 + d / 128 * 128 * 16777216
+  top-sum : top ≡ a / 0x80 * 0x80 + b / 0x80 * 0x80 * 0x100 + c / 0x80 * 0x80 * 0x10000 + d / 0x80 * 0x80 * 0x1000000
   top-sum = omega (arith, sum top-lt tops, top-bit a a-byte, top-bit b b-byte, top-bit c c-byte, top-bit d d-byte)
 
-  low-sum : bitXor w top ≡ a % 128 + b % 128 * 256 + c % 128 * 65536 + d % 128 * 16777216
+  low-sum : bitXor w top ≡ a % 0x80 + b % 0x80 * 0x100 + c % 0x80 * 0x10000 + d % 0x80 * 0x1000000
   low-sum = omega (arith, sum (xor-lt 32 w top h top-lt) lows, low-bits a a-byte, low-bits b b-byte, low-bits c c-byte, low-bits d d-byte)
 
   pub doubled-lt : bitXor w (bitAnd w 0x80808080) * 2 < 2 ^ 32
   unfolding top
   doubled-lt = omega (arith, low-sum)
 
-  pub reduced-lt : bitAnd w 0x80808080 / 128 * 27 < 2 ^ 32
+  pub reduced-lt : bitAnd w 0x80808080 / 0x80 * 0x1b < 2 ^ 32
   unfolding top
   reduced-lt = omega (arith, top-lt)
 
-  pub twice-is : WordIs (mul 2 a) (mul 2 b) (mul 2 c) (mul 2 d) (bitXor (bitXor w (bitAnd w 0x80808080) * 2) (bitAnd w 0x80808080 / 128 * 27))
+  pub twice-is : WordIs (mul 2 a) (mul 2 b) (mul 2 c) (mul 2 d) (bitXor (bitXor w (bitAnd w 0x80808080) * 2) (bitAnd w 0x80808080 / 0x80 * 0x1b))
   unfolding top
   twice-is =
-      let q : WordIs (a % 128 * 2) (b % 128 * 2) (c % 128 * 2) (d % 128 * 2) (bitXor w top * 2) =
+      let q : WordIs (a % 0x80 * 2) (b % 0x80 * 2) (c % 0x80 * 2) (d % 0x80 * 2) (bitXor w top * 2) =
       word-is _ _ _ _ _ (omega arith) (omega arith) (omega arith) (omega arith) (omega (arith, low-sum)) in
-      let r : WordIs (a / 128 * 27) (b / 128 * 27) (c / 128 * 27) (d / 128 * 27) (top / 128 * 27) =
+      let r : WordIs (a / 0x80 * 0x1b) (b / 0x80 * 0x1b) (c / 0x80 * 0x1b) (d / 0x80 * 0x1b) (top / 0x80 * 0x1b) =
       word-is _ _ _ _ _ (omega (arith, a-byte)) (omega (arith, b-byte)) (omega (arith, c-byte)) (omega (arith, d-byte)) (omega (arith, top-sum)) in
       let s = word-xor q r in
       record {
@@ -140,9 +140,10 @@ module _ {a b c d w : ℕ} (h : w < 2 ^ 32) (p : WordIs a b c d w) where
         row3 = s .row3 ∙ twice-mul d d-byte;
       }
 
--- ---- MixColumns at one column: `x` is twice each byte, `u` three times the byte below, `v` and `t` the two bytes below that
+-- ---- MixColumns at one column: `x` is twice each byte, `u` three times the byte below,
+-- `v` and `t` the two bytes below that
 
-row-of : (a b c d : ℕ) → b < 256 → bitXor (bitXor (bitXor (mul 2 a) (bitXor (mul 2 b) b)) c) d ≡ mixedByte a b c d
+row-of : (a b c d : ℕ) → b < 0x100 → bitXor (bitXor (bitXor (mul 2 a) (bitXor (mul 2 b) b)) c) d ≡ mixedByte a b c d
 row-of a b c d h = ap (λ (n : ℕ). bitXor (bitXor (bitXor (mul 2 a) n) c) d) (xor-comm (mul 2 b) b ∙ thrice-mul b h)
 
 module _ {a b c d w x u v t : ℕ} (h : w < 2 ^ 32) (p : WordIs a b c d w) (two : WordIs (mul 2 a) (mul 2 b) (mul 2 c) (mul 2 d) x)

@@ -27,7 +27,8 @@ subBytes s = state (λ r c. sbox (at s r c))
 abbrev pub shiftRows : List ℕ → List ℕ
 shiftRows s = state (λ r c. at s r ((c + r) % 4))
 
--- 5.1.3: each column times the matrix whose first row is 02 03 01 01 and whose every other row is the one above moved one place to the right
+-- 5.1.3: each column times the matrix whose first row is 02 03 01 01
+-- and whose every other row is the one above moved one place to the right
 abbrev pub mixColumns : List ℕ → List ℕ
 mixColumns s =
     state (λ r c.

@@ -10,7 +10,7 @@ use Rattle.aes.specs.declared.State.{State}
 
 -- the string of a word
 abbrev pub bytesOfWord : ℕ → List ℕ
-bytesOfWord w = w % 256 ∷ w / 256 % 256 ∷ w / 65536 % 256 ∷ w / 16777216 % 256 ∷ []
+bytesOfWord w = w % 0x100 ∷ w / 0x100 % 0x100 ∷ w / 0x10000 % 0x100 ∷ w / 0x1000000 % 0x100 ∷ []
 
 -- the string of a state, column by column
 abbrev pub bytesOf : State → List ℕ
@@ -18,10 +18,10 @@ bytesOf s = bytesOfWord (s .c0) ++ (bytesOfWord (s .c1) ++ (bytesOfWord (s .c2) 
 
 -- the word w has the bytes a, b, c and d
 pub record WordIs (a b c d w : ℕ) : Type 0 where
-  pub row0 : w % 256 ≡ a
-  pub row1 : w / 256 % 256 ≡ b
-  pub row2 : w / 65536 % 256 ≡ c
-  pub row3 : w / 16777216 % 256 ≡ d
+  pub row0 : w % 0x100 ≡ a
+  pub row1 : w / 0x100 % 0x100 ≡ b
+  pub row2 : w / 0x10000 % 0x100 ≡ c
+  pub row3 : w / 0x1000000 % 0x100 ≡ d
 
 -- the state r has the bytes of the string s
 pub record StateIs (s : List ℕ) (r : State) : Type 0 where

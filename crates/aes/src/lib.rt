@@ -5,12 +5,11 @@ mod word;
 
 ghost use mathlib.Core.Path.{_≡_};
 ghost use mathlib.Core.Bool.{true};
-ghost use Prim.Native.Nat.{_≤_};
 ghost use lib.ListN.{length};
 ghost use Rattle.aes.specs.Aes.{isWidth, expansion};
 ghost use Rattle.aes.specs.Cipher.{cipher};
 ghost use Rattle.aes.specs.KeyExpansion.{roundKeys};
-ghost use Rattle.aes.specs.Engine.{Ready};
+ghost use Rattle.aes.specs.Engine.{Ready, CanEncrypt};
 ghost use Rattle.aes.specs.Work.{Reports};
 use octets::Block;
 
@@ -56,7 +55,7 @@ pub fn engine() -> Engine
 
 // The cipher of a block at a key width, under any round keys, with its one block of work.
 pub fn encrypt(engine: &Engine, width: usize, keys: &RoundKeys, block: Block) -> Counted
-    requires { ⌜ Ready (now engine) × (width ≤ 32) ⌝ }
+    requires { ⌜ CanEncrypt (now engine) width ⌝ }
     ensures { λ r. ⌜ Reports (cipher width (now (keys .entry)) block) 1 r ⌝ }
 {
     let last = width / 4 + 6;

@@ -1,6 +1,6 @@
 -- Laws of the order of refusals, and of which case an answer is.
 -- Assumes nothing.
-use mathlib.Core.Path.{_≡_, refl, ap, ap₂, sym, _∙_}
+use mathlib.Core.Path.{_≡_, refl, ap, ap₂, sym, subst, _∙_}
 use mathlib.Core.Bool.{Bool, true, false, not, false≢true, cond, _&&_, and-eq-true-iff}
 use mathlib.Core.List.{List, [], _∷_, _++_}
 use Prim.Native.Nat.{ℕ, suc, _≤_}
@@ -14,7 +14,7 @@ use Rattle.answers.specs.declared.Answer.{Answer}
 use Rattle.answers.specs.declared.Answer.the-variants.{Ok, Refused}
 use Rattle.answers.specs.declared.Refusal.{Refusal}
 use Rattle.answers.specs.declared.Refusal.the-variants.{KeyLength, HeaderCount, HeaderLengths, TooLong, SealedLength, OutputShort, ScratchShort, Forged, State, EmptyNonce, RingLength, HeaderPlan}
-use Rattle.answers.specs.Answer.{Outcome, Row, first, numberOf, outcomeOf, refusal}
+use Rattle.answers.specs.Answer.{Outcome, Row, row, first, settle, forgedOr, Judges, numberOf, outcomeOf, refusal}
 use Rattle.answers.proofs.Answer.{the-type}
 
 -- ---- the order of refusals
@@ -111,31 +111,120 @@ number-most RingLength = omega arith
 number-most HeaderPlan = omega arith
 
 -- what a match tells of an answer: 0 and 1 are the places of its cases
-pub told-refused : (a : Answer) → OneOf (1 ∷ []) (declared.tagOf the-type a) → outcomeOf a 0 .number ≡ 0 → ⊥
+abbrev pub IsOk : Answer → Type 0
+IsOk a = OneOf (0 ∷ []) (declared.tagOf the-type a)
+
+abbrev pub IsRefused : Answer → Type 0
+IsRefused a = OneOf (1 ∷ []) (declared.tagOf the-type a)
+
+pub told-refused : (a : Answer) → IsRefused a → outcomeOf a 0 .number ≡ 0 → ⊥
 told-refused (Ok n) k e = let z : _≡_ {A = ℕ} 0 1 = k in omega arith
 told-refused (Refused r) k e = refusal-number r e
 
-pub told-ok : (a : Answer) → OneOf (0 ∷ []) (declared.tagOf the-type a) → outcomeOf a 0 .number ≡ 0
+pub told-ok : (a : Answer) → IsOk a → outcomeOf a 0 .number ≡ 0
 told-ok (Ok n) k = refl
 told-ok (Refused r) k = let z : _≡_ {A = ℕ} 1 0 = k in absurd (omega arith)
 
 -- a refusal has length 0
-pub told-length : (a : Answer) → OneOf (1 ∷ []) (declared.tagOf the-type a) → outcomeOf a 0 ≡ refusal (outcomeOf a 0 .number)
+pub told-length : (a : Answer) → IsRefused a → outcomeOf a 0 ≡ refusal (outcomeOf a 0 .number)
 told-length (Ok n) k = let z : _≡_ {A = ℕ} 0 1 = k in absurd (omega arith)
 told-length (Refused r) k = refl
 
--- past a judgement none was due
-pub passed : (a : Answer) (n : ℕ) → OneOf (0 ∷ []) (declared.tagOf the-type a) → outcomeOf a 0 ≡ refusal n → n ≡ 0
+-- a judgement that is a refusal was due, and past one that is not none was
+pub due : (a : Answer) (n : ℕ) → IsRefused a → outcomeOf a 0 ≡ refusal n → n ≡ 0 → ⊥
+due a n k e z = told-refused a k (ap (λ (o : Outcome). o .number) e ∙ z)
+
+pub passed : (a : Answer) (n : ℕ) → IsOk a → outcomeOf a 0 ≡ refusal n → n ≡ 0
 passed a n k e = sym (ap (λ (o : Outcome). o .number) e) ∙ told-ok a k
 
 -- a refusal stays due whatever rows come behind
-pub still-due : (a : Answer) (rows rest : List Row) → OneOf (1 ∷ []) (declared.tagOf the-type a) → outcomeOf a 0 ≡ refusal (first rows) → outcomeOf a 0 ≡ refusal (first (rows ++ rest))
-still-due a rows rest k e = e ∙ ap refusal (sym (first-stop rows rest (λ z. told-refused a k (ap (λ (o : Outcome). o .number) e ∙ z))))
+pub still-due : (a : Answer) (rows rest : List Row) → IsRefused a → Judges rows a → Judges (rows ++ rest) a
+still-due a rows rest k e = e ∙ ap refusal (sym (first-stop rows rest (due a (first rows) k e)))
 
 -- past a judgement the rows behind decide
-pub next-due : (a : Answer) (rows rest : List Row) → lacks 0 rows ≡ true → OneOf (0 ∷ []) (declared.tagOf the-type a) → outcomeOf a 0 ≡ refusal (first rows)
+pub next-due : (a : Answer) (rows rest : List Row) → lacks 0 rows ≡ true → IsOk a → Judges rows a
     → refusal (first rest) ≡ refusal (first (rows ++ rest))
 next-due a rows rest l k e = ap refusal (sym (first-pass rows rest l (passed a (first rows) k e)))
+
+-- ---- a call that its first due row settles
+
+module _ {A : Type 0} (n : ℕ) (complete : A) (refused : ℕ → A) where
+  pub settle-complete : n ≡ 0 → settle n complete refused ≡ complete
+  settle-complete e = ap (λ (t : Bool). cond t complete (refused n)) (eq-eqb n 0 e)
+
+  pub settle-refused : (n ≡ 0 → ⊥) → settle n complete refused ≡ refused n
+  settle-refused z = ap (λ (t : Bool). cond t complete (refused n)) (ne-eqb n 0 z)
+
+  -- its number is the one that settled it
+  pub settle-number : (numberIn : A → ℕ) → numberIn complete ≡ 0 → ((m : ℕ) → numberIn (refused m) ≡ m) → numberIn (settle n complete refused) ≡ n
+  settle-number numberIn z named = go (ℕ-discrete n 0)
+    where
+      go : Dec (n ≡ 0) → numberIn (settle n complete refused) ≡ n
+      go (yes e) = ap numberIn (settle-complete e) ∙ z ∙ sym e
+      go (no e) = ap numberIn (settle-refused e) ∙ named n
+
+  -- what is promised of the complete result is promised of the call
+  pub by-complete : (P : A → Type 0) → n ≡ 0 → P complete → P (settle n complete refused)
+  by-complete P e p = subst P (sym (settle-complete e)) p
+
+-- and what is promised of a refusal, by an answer that was judged
+pub by-refusal : {A : Type 0} (n : ℕ) (complete : A) (leaves : Outcome → A) (P : A → Type 0) (a : Answer) → IsRefused a → outcomeOf a 0 ≡ refusal n
+    → P (leaves (outcomeOf a 0)) → P (settle n complete (λ m. leaves (refusal m)))
+by-refusal n complete leaves P a k e p =
+    subst P (ap leaves e ∙ sym (settle-refused n complete (λ m. leaves (refusal m)) (due a n k e))) p
+
+-- where 8 leaves something of its own
+module _ {A : Type 0} (n : ℕ) (complete forgery : A) (refused : ℕ → A) where
+  pub settle-forged : n ≡ 8 → settle n complete (forgedOr forgery refused) ≡ forgery
+  settle-forged e = ap (λ (m : ℕ). settle m complete (forgedOr forgery refused)) e
+
+  pub settle-unread : (n ≡ 0 → ⊥) → (n ≡ 8 → ⊥) → settle n complete (forgedOr forgery refused) ≡ refused n
+  settle-unread z e = settle-refused n complete (forgedOr forgery refused) z ∙ ap (λ (t : Bool). cond t forgery (refused n)) (ne-eqb n 8 e)
+
+  pub settle-verdict : (numberIn : A → ℕ) → numberIn complete ≡ 0 → numberIn forgery ≡ 8 → ((m : ℕ) → numberIn (refused m) ≡ m)
+      → numberIn (settle n complete (forgedOr forgery refused)) ≡ n
+  settle-verdict numberIn z e named = settle-number n complete (forgedOr forgery refused) numberIn z (λ m. go m (ℕ-discrete m 8))
+    where
+      go : (m : ℕ) → Dec (m ≡ 8) → numberIn (forgedOr forgery refused m) ≡ m
+      go m (yes p) = ap numberIn (ap (λ (t : Bool). cond t forgery (refused m)) (eq-eqb m 8 p)) ∙ e ∙ sym p
+      go m (no p) = ap numberIn (ap (λ (t : Bool). cond t forgery (refused m)) (ne-eqb m 8 p)) ∙ named m
+
+-- two calls that one number settles are related as their cases are
+pub alike : {A B : Type 0} (R : A → B → Type 0) (t : Bool) {a b : A} {c d : B} → R a c → R b d → R (cond t a b) (cond t c d)
+alike R true p q = p
+alike R false p q = q
+
+-- a table whose last row is 8, due unless a test is passed: the rows before it decide, and past them the test
+module _ (rows : List Row) (test : Bool) (present : lacks 0 rows ≡ true) (readable : lacks 8 rows ≡ true) where
+  abbrev table : List Row
+  table = rows ++ (row 8 (not test) ∷ [])
+
+  pub forged-stop : (first rows ≡ 0 → ⊥) → first table ≡ first rows
+  forged-stop z = first-stop rows (row 8 (not test) ∷ []) z
+
+  pub forged-test : first rows ≡ 0 → first table ≡ cond (not test) 8 0
+  forged-test e = first-pass rows (row 8 (not test) ∷ []) present e
+
+  pub rows-not-8 : first rows ≡ 8 → ⊥
+  rows-not-8 e = first-not 8 rows readable (λ q. omega arith) e
+
+  -- 0 and 8 passed the rows before, and any other number did not
+  pub passed-at-0 : first table ≡ 0 → first rows ≡ 0
+  passed-at-0 e = first-none rows (row 8 (not test) ∷ []) present e .0
+
+  pub passed-at-8 : first table ≡ 8 → first rows ≡ 0
+  passed-at-8 e = go (ℕ-discrete (first rows) 0)
+    where
+      go : Dec (first rows ≡ 0) → first rows ≡ 0
+      go (yes z) = z
+      go (no z) = absurd (rows-not-8 (sym (forged-stop z) ∙ e))
+
+  pub unread : (first table ≡ 0 → ⊥) → (first table ≡ 8 → ⊥) → first rows ≡ 0 → ⊥
+  unread z e none = go test (forged-test none)
+    where
+      go : (t : Bool) → first table ≡ cond (not t) 8 0 → ⊥
+      go true n = z n
+      go false n = e n
 
 -- with another work number and length are the same
 pub outcome-with : (a : Answer) (w w′ : ℕ) {o : Outcome} {v : ℕ} → outcomeOf a w ≡ o → w′ ≡ v → outcomeOf a w′ ≡ record { number = o .number; count = o .count; work = v }

@@ -1,8 +1,10 @@
 -- What a call answers: document 01's table of answers.
 -- Assumes nothing.
+use mathlib.Core.Path.{_≡_}
 use mathlib.Core.Bool.{Bool, cond}
 use mathlib.Core.List.{List, [], _∷_}
 use Prim.Native.Nat.{ℕ}
+use lib.Dec.{eqb}
 use Rattle.answers.specs.declared.Refusal.{Refusal}
 use Rattle.answers.specs.declared.Refusal.the-variants.{KeyLength, HeaderCount, HeaderLengths, TooLong, SealedLength, OutputShort, ScratchShort, Forged, State, EmptyNonce, RingLength, HeaderPlan}
 use Rattle.answers.specs.declared.Answer.{Answer}
@@ -56,3 +58,16 @@ row n b = record { number = n; due = b }
 abbrev pub first : List Row → ℕ
 first [] = 0
 first (r ∷ rs) = cond (r .due) (r .number) (first rs)
+
+-- what a call gives whose first due row has the number n:
+-- the complete result where none is due, else what that refusal leaves
+abbrev pub settle : {A : Type 0} → ℕ → A → (ℕ → A) → A
+settle n complete refused = cond (eqb n 0) complete (refused n)
+
+-- what a refusal leaves where 8 leaves something of its own
+abbrev pub forgedOr : {A : Type 0} → A → (ℕ → A) → ℕ → A
+forgedOr forgery refused n = cond (eqb n 8) forgery (refused n)
+
+-- an answer is the judgement of these rows: the first due one's refusal, or success with length 0
+abbrev pub Judges : List Row → Answer → Type 0
+Judges rows answer = outcomeOf answer 0 ≡ refusal (first rows)

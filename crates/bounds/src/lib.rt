@@ -4,7 +4,7 @@ ghost use mathlib.Core.Bool.{not};
 ghost use mathlib.Core.List.{[], _∷_};
 ghost use Prim.Native.Nat.{_+_};
 ghost use lib.Dec.{ltb};
-ghost use Rattle.answers.specs.Answer.{outcomeOf, row, first, refusal};
+ghost use Rattle.answers.specs.Answer.{row, Judges};
 use answers::Answer;
 use answers::Refusal;
 
@@ -23,7 +23,7 @@ fn exceeds(most: usize, used: usize, n: usize) -> bool
 
 // The refusals of a call that takes a piece of n bytes.
 pub fn piece(fits: bool, most: usize, used: usize, n: usize) -> Answer
-    ensures { λ r. ⌜ outcomeOf r 0 ≡ refusal (first (row 9 (not fits) ∷ row 4 (ltb most (used + n)) ∷ [])) ⌝ }
+    ensures { λ r. ⌜ Judges (row 9 (not fits) ∷ row 4 (ltb most (used + n)) ∷ []) r ⌝ }
 {
     if !fits {
         return Answer::Refused(Refusal::State);
@@ -36,7 +36,7 @@ pub fn piece(fits: bool, most: usize, used: usize, n: usize) -> Answer
 
 // The refusals of a call that writes so many bytes to an output.
 pub fn room(fits: bool, need: usize, output: usize) -> Answer
-    ensures { λ r. ⌜ outcomeOf r 0 ≡ refusal (first (row 9 (not fits) ∷ row 6 (ltb output need) ∷ [])) ⌝ }
+    ensures { λ r. ⌜ Judges (row 9 (not fits) ∷ row 6 (ltb output need) ∷ []) r ⌝ }
 {
     if !fits {
         return Answer::Refused(Refusal::State);
@@ -49,7 +49,7 @@ pub fn room(fits: bool, need: usize, output: usize) -> Answer
 
 // The refusals of a call that takes a piece of n bytes and writes as many at place at of an output.
 pub fn piece_to(fits: bool, most: usize, used: usize, n: usize, at: usize, output: usize) -> Answer
-    ensures { λ r. ⌜ outcomeOf r 0 ≡ refusal (first (row 9 (not fits) ∷ row 4 (ltb most (used + n)) ∷ row 6 (ltb output (at + n)) ∷ [])) ⌝ }
+    ensures { λ r. ⌜ Judges (row 9 (not fits) ∷ row 4 (ltb most (used + n)) ∷ row 6 (ltb output (at + n)) ∷ []) r ⌝ }
 {
     let answer = piece(fits, most, used, n);
     if let Answer::Refused(_) = answer {

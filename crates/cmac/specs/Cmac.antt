@@ -1,4 +1,4 @@
--- CMAC with a 16-byte tag, SP 800-38B, over any block function E; beside what calls E stands its work, the number of these calls.
+-- CMAC with a 16-byte tag, SP 800-38B, over any block function E; beside what calls E stands its work, the calls of E.
 -- Assumes nothing.
 use mathlib.Core.Path.{_≡_}
 use mathlib.Core.Bool.{cond}
@@ -7,6 +7,8 @@ use Prim.Native.Nat.{ℕ, zero, suc, _+_, _-_, _*_, _/_, _%_}
 use lib.Dec.{ltb, eqb}
 use lib.ListN.{length, getD, drop, replicate}
 use Rattle.octets.specs.Octets.{xors, part}
+use Rattle.aes.specs.declared.Counted.{Counted}
+use Rattle.aes.specs.Work.{Reports}
 use Rattle.cmac.specs.declared.Subkeys.{Subkeys}
 
 -- 16 zeros
@@ -71,6 +73,10 @@ cmacFrom E k c s =
 
 unfoldable pub cmacWork : List ℕ → ℕ
 cmacWork s = chainWork (blocksBefore (length s)) + 1
+
+-- r is that CMAC, made with that work
+abbrev pub IsCmacFrom : (List ℕ → List ℕ) → Subkeys → List ℕ → List ℕ → Counted → Type 0
+IsCmacFrom E k c s r = Reports (cmacFrom E k c s) (cmacWork s) r
 
 -- 6.2: CMAC of a string under the subkeys, with a 16-byte tag; its work is the same, `cmacWork`
 abbrev pub cmac : (List ℕ → List ℕ) → Subkeys → List ℕ → List ℕ

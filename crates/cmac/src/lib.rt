@@ -3,10 +3,11 @@ ghost use mathlib.Core.Path.{_≡_};
 ghost use Prim.Native.Nat.{_+_, _*_, _/_, _%_, _≤_, _<_};
 ghost use lib.ListN.{length};
 ghost use Rattle.aes.specs.Cipher.{cipher};
-ghost use Rattle.aes.specs.Engine.{Ready};
+ghost use Rattle.aes.specs.Engine.{CanEncrypt};
 ghost use Rattle.aes.specs.Work.{Reports};
 ghost use Rattle.octets.specs.Octets.{xors, part};
-ghost use Rattle.cmac.specs.Cmac.{shifted, double, subkeys, pad, lastBlock, blocksBefore, zeroCipher, zeroCipherWork, chain, chainWork, cmacFrom, cmacWork};
+ghost use Rattle.cmac.specs.Cmac.{shifted, double, subkeys, pad, lastBlock, blocksBefore};
+ghost use Rattle.cmac.specs.Cmac.{zeroCipher, zeroCipherWork, chain, chainWork, IsCmacFrom};
 use aes::Counted;
 use aes::Engine;
 use aes::RoundKeys;
@@ -54,7 +55,7 @@ pub fn double(b: Block) -> Block
 
 // L: the cipher of the zero block.
 pub fn zero_cipher(engine: &Engine, width: usize, keys: &RoundKeys) -> Counted
-    requires { ⌜ Ready (now engine) × (width ≤ 32) ⌝ }
+    requires { ⌜ CanEncrypt (now engine) width ⌝ }
     ensures { λ r. ⌜ Reports (zeroCipher (cipher width (now (keys .entry)))) zeroCipherWork r ⌝ }
 {
     aes::encrypt(engine, width, keys, [0u8; 16])
@@ -99,7 +100,7 @@ fn xor_last(k: Subkeys, c: Block, s: &[u8]) -> Block
 
 // The chain with block n of a slice.
 fn absorb(engine: &Engine, width: usize, keys: &RoundKeys, c: Block, s: &[u8], n: usize) -> Counted
-    requires { ⌜ Ready (now engine) × (width ≤ 32) × (16 * n + 16 ≤ length (now s)) ⌝ }
+    requires { ⌜ CanEncrypt (now engine) width × (16 * n + 16 ≤ length (now s)) ⌝ }
     ensures { λ r. ⌜ Reports (cipher width (now (keys .entry)) (xors c (part (now (s .entry)) (16 * n) 16))) 1 r ⌝ }
 {
     aes::encrypt(
@@ -119,7 +120,7 @@ pub fn chain_blocks(
     s: &[u8],
     n: usize,
 ) -> Counted
-    requires { ⌜ Ready (now engine) × (width ≤ 32) × (16 * n ≤ length (now s)) ⌝ }
+    requires { ⌜ CanEncrypt (now engine) width × (16 * n ≤ length (now s)) ⌝ }
     ensures { λ r. ⌜ Reports (chain (cipher width (now (keys .entry))) c (now (s .entry)) n) (chainWork n) r ⌝ }
 {
     let mut block = c;
@@ -153,8 +154,8 @@ pub fn cmac_from(
     c: Block,
     s: &[u8],
 ) -> Counted
-    requires { ⌜ Ready (now engine) × (width ≤ 32) ⌝ }
-    ensures { λ r. ⌜ Reports (cmacFrom (cipher width (now (keys .entry))) k c (now (s .entry))) (cmacWork (now (s .entry))) r ⌝ }
+    requires { ⌜ CanEncrypt (now engine) width ⌝ }
+    ensures { λ r. ⌜ IsCmacFrom (cipher width (now (keys .entry))) k c (now (s .entry)) r ⌝ }
 {
     let n = blocks_before(s.len());
     if n == 0 {

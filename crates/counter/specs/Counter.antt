@@ -16,7 +16,7 @@ bytesOfNumber (suc n) x = x / 256 ^ n % 256 ∷ bytesOfNumber n x
 
 -- 2.6, Q from V: the top bits of bytes 8 and 12 cleared
 abbrev pub initialCounter : List ℕ → List ℕ
-initialCounter v = set (set v 8 (getD v 8 0 % 128)) 12 (getD v 12 0 % 128)
+initialCounter v = set (set v 8 (getD v 8 0 % 0x80)) 12 (getD v 12 0 % 0x80)
 
 -- 2.6, counter block i: Q + i modulo 2^128
 unfoldable pub counterBlock : List ℕ → ℕ → List ℕ

@@ -10,8 +10,8 @@ pub fn initial_counter(v: Block) -> Block
     ensures { λ r. ⌜ r ≡ initialCounter v ⌝ }
 {
     let mut q = v;
-    q[8] = v[8] % 128;
-    q[12] = v[12] % 128;
+    q[8] = v[8] % 0x80;
+    q[12] = v[12] % 0x80;
     q
 }
 
@@ -19,13 +19,13 @@ pub fn initial_counter(v: Block) -> Block
 fn number_of_bytes(a: u8, b: u8, c: u8, d: u8, e: u8, f: u8, g: u8, h: u8) -> u64
     ensures { λ r. ⌜ r ≡ number (a ∷ b ∷ c ∷ d ∷ e ∷ f ∷ g ∷ h ∷ []) ⌝ }
 {
-    a as u64 * 72057594037927936
-        + b as u64 * 281474976710656
-        + c as u64 * 1099511627776
-        + d as u64 * 4294967296
-        + e as u64 * 16777216
-        + f as u64 * 65536
-        + g as u64 * 256
+    a as u64 * 0x100000000000000
+        + b as u64 * 0x1000000000000
+        + c as u64 * 0x10000000000
+        + d as u64 * 0x100000000
+        + e as u64 * 0x1000000
+        + f as u64 * 0x10000
+        + g as u64 * 0x100
         + h as u64
 }
 
@@ -48,22 +48,22 @@ fn block_of_halves(hi: u64, lo: u64) -> Block
     ensures { λ r. ⌜ r ≡ bytesOfNumber 8 hi ++ bytesOfNumber 8 lo ⌝ }
 {
     [
-        (hi / 72057594037927936 % 256) as u8,
-        (hi / 281474976710656 % 256) as u8,
-        (hi / 1099511627776 % 256) as u8,
-        (hi / 4294967296 % 256) as u8,
-        (hi / 16777216 % 256) as u8,
-        (hi / 65536 % 256) as u8,
-        (hi / 256 % 256) as u8,
-        (hi % 256) as u8,
-        (lo / 72057594037927936 % 256) as u8,
-        (lo / 281474976710656 % 256) as u8,
-        (lo / 1099511627776 % 256) as u8,
-        (lo / 4294967296 % 256) as u8,
-        (lo / 16777216 % 256) as u8,
-        (lo / 65536 % 256) as u8,
-        (lo / 256 % 256) as u8,
-        (lo % 256) as u8,
+        (hi / 0x100000000000000 % 0x100) as u8,
+        (hi / 0x1000000000000 % 0x100) as u8,
+        (hi / 0x10000000000 % 0x100) as u8,
+        (hi / 0x100000000 % 0x100) as u8,
+        (hi / 0x1000000 % 0x100) as u8,
+        (hi / 0x10000 % 0x100) as u8,
+        (hi / 0x100 % 0x100) as u8,
+        (hi % 0x100) as u8,
+        (lo / 0x100000000000000 % 0x100) as u8,
+        (lo / 0x1000000000000 % 0x100) as u8,
+        (lo / 0x10000000000 % 0x100) as u8,
+        (lo / 0x100000000 % 0x100) as u8,
+        (lo / 0x1000000 % 0x100) as u8,
+        (lo / 0x10000 % 0x100) as u8,
+        (lo / 0x100 % 0x100) as u8,
+        (lo % 0x100) as u8,
     ]
 }
 

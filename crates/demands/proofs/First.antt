@@ -8,35 +8,34 @@ use native.Mathlib.Decide.{ℕ-discrete}
 use native.Mathlib.Omega.{arith}
 use lib.Dec.{ltb, eqb}
 use lib.ListN.{length, getD}
-use borrow.Author.Tests.{eqb-true, eq-eqb, ne-eqb}
-use Rattle.cmac.specs.Cmac.{zeros}
+use borrow.Author.Tests.{eq-eqb, ne-eqb}
 use Rattle.header.specs.Header.{total, strings}
 use Rattle.header.specs.Blocks.{blocksOfAll}
 use Rattle.answers.specs.declared.Answer.{Answer}
 use Rattle.answers.specs.declared.Answer.the-variants.{Ok, Refused}
 use Rattle.answers.specs.declared.Refusal.{Refusal}
 use Rattle.answers.specs.declared.Refusal.the-variants.{KeyLength, HeaderCount, HeaderLengths, TooLong, SealedLength, OutputShort, ScratchShort, Forged, State, EmptyNonce, RingLength, HeaderPlan}
-use Rattle.answers.specs.Answer.{Outcome, Row, row, first, success, refusal, forged, numberOf, outcomeOf}
-use Rattle.answers.proofs.Laws.{lacks, first-not, first-pass, first-stop, first-none, refusal-number, outcome-work, none-where}
+use Rattle.answers.specs.Answer.{Outcome, Row, row, first, settle, forgedOr, success, refusal, forged, numberOf, outcomeOf}
+use Rattle.answers.proofs.Laws.{settle-complete, settle-refused, settle-number, settle-forged, settle-unread, settle-verdict, lacks, first-not, first-pass, first-stop, first-none, refusal-number, outcome-work, none-where}
 use Rattle.worst_header.specs.WorstHeader.{planRows, GivesWorst}
-use Rattle.whole.specs.Calls.{CallResult, refusedCall, isKeyLength, headerRows, openRows, sealTable, sealNumber, sealCall, openTable, openNumber, openCall}
+use Rattle.whole.specs.Calls.{CallResult, refusedCall, isKeyLength, headerRows, openRows, sealTable, sealNumber, openTable, openNumber}
 use Rattle.whole.specs.Ring.{slotCount, slotKey, ringRows, RingResult, openSlot, opensAt}
 use Rattle.whole.specs.Siv.{genuine, genuineWork}
 use Rattle.whole.specs.Work.{blockWork}
-use Rattle.whole.proofs.Laws.{header-admits, seal-admits, seal-count, openJudged, open-admits, open-passed, open-forged, open-unread, open-count}
+use Rattle.whole.proofs.Laws.{header-admits, seal-admits, seal-numbered, seal-complete, seal-untouched, seal-count, openJudged, open-admits, open-passed, open-forged, open-unread, open-numbered, open-complete, open-forgery, open-untouched, open-count}
 use Rattle.whole.proofs.Lengths.{sealed-lengths, genuine-lengths}
-use Rattle.whole.proofs.Ring.{RingWhole, ring-admits, slot-keyed, Chosen, chosen-within, chosen-closed, chosen-same, Comes, goes, stops, ring-comes, ring-idle, ring-work}
+use Rattle.whole.proofs.Ring.{RingWhole, ring-admits, slot-keyed, Chosen, chosen-within, chosen-closed, chosen-same, RingCase, tries, refuses, open-ring-case, ring-idle, ring-work}
 use Rattle.head.specs.declared.Head.{Head}
-use Rattle.head.specs.Head.{zeroHead, headOf, headOfWork, extended, extendedWork, fitsHead, restRows, MakeResult, madeHead, settleHead, makeHead, extendHead}
+use Rattle.head.specs.Head.{headOfWork, extendedWork, fitsHead, restRows, MakeResult, madeHead, refusedHead, makeHead, extendHead}
 use Rattle.head.proofs.Laws.{head-lengths, extended-lengths, rest-admits}
 use Rattle.stream.specs.declared.Stream.{Stream}
-use Rattle.stream.specs.State.{ended, start, tagOfStateWork}
-use Rattle.stream.specs.Steps.{StepResult, doneStep, refusedStep, settle, tagRows, beginBy, beginSealer, beginOpener, beginSealerFrom, beginOpenerFrom, addStep, turnStep, writeStep, closeStep, feedStep, finishTable, forgedStep, finishStep}
+use Rattle.stream.specs.State.{ended, tagOfStateWork}
+use Rattle.stream.specs.Steps.{StepResult, doneStep, refusedStep, tagRows, beginSealer, beginOpener, beginSealerFrom, beginOpenerFrom, addStep, turnStep, writeStep, closeStep, feedStep, finishTable, forgedStep, finishStep}
 use Rattle.kinphlor.specs.Interface.{aeadLens, emptyNonce, fromC}
 use Rattle.demands.specs.First.{order, keeps, FirstDue, none, here, later, FirstSeal, FirstOpen, rowsFromC, FirstFromC, noSlot, FirstRing, FirstWorst, restTable, FirstHead, FirstStep, FirstFinish, First}
 use Rattle.demands.proofs.Parts.{from-c-parts, ring-parts}
 use Rattle.demands.proofs.Pieces.{piece-work, added-work}
-use Rattle.demands.proofs.Slots.{chosen-noSlot, ring-comes-from-c}
+use Rattle.demands.proofs.Slots.{chosen-noSlot, ring-case-from-c}
 
 -- `first` takes the first row that is due
 first-due : (rs : List Row) → FirstDue rs (first rs)
@@ -46,6 +45,10 @@ first-due (r ∷ rs) = go (r .due) refl (first-due rs)
     go : (d : Bool) → r .due ≡ d → FirstDue rs (first rs) → FirstDue (r ∷ rs) (cond d (r .number) (first rs))
     go true e f = here e
     go false e f = later e f
+
+-- what a call leaves, by the result that it is
+leaves : {call result : CallResult} → call ≡ result → (call .outcome ≡ result .outcome) × (call .output ≡ result .output) × (call .scratch ≡ result .scratch)
+leaves e = (ap (λ (r : CallResult). r .outcome) e, ap (λ (r : CallResult). r .output) e, ap (λ (r : CallResult). r .scratch) e)
 
 module _ (key bytes lens input output scratch : List ℕ) where
   seal-first : FirstDue (sealTable key bytes lens input output scratch) (sealNumber key bytes lens input output scratch)
@@ -59,30 +62,37 @@ module _ (key bytes lens input output scratch : List ℕ) where
   open-lengths : openJudged key bytes lens input output scratch ≡ 0 → genuineWork key (strings bytes lens) input ≡ blockWork lens (length input - 16)
   open-lengths j = genuine-lengths key bytes lens input (omega (arith, open-admits key bytes lens input output scratch j .sums))
 
+  untouched : ℕ → CallResult
+  untouched n = refusedCall n output scratch
+
   sealing : FirstSeal key bytes lens input output scratch
-  unfolding sealCall
+  unfolding untouched
   sealing =
+      let number = sym (seal-numbered key bytes lens input output scratch) in
       record {
         ordered = refl;
-        first = seal-first;
-        done = λ e. (simp e (ap (success (length input + 16)) (sealed-lengths key bytes lens input (omega (arith, seal-admits key bytes lens input output scratch e .sums)))), simp e, simp e);
-        refused = λ n e z.
-            let off = ne-eqb n 0 z in
-            (simp (e, off), simp (e, off), simp (e, off));
+        first = subst (FirstDue (sealTable key bytes lens input output scratch)) number seal-first;
+        done = λ e.
+            let works = sealed-lengths key bytes lens input (omega (arith, seal-admits key bytes lens input output scratch (number ∙ e) .sums)) in
+            let left = leaves (seal-complete key bytes lens input output scratch (number ∙ e)) in
+            (left .0 ∙ ap (success (length input + 16)) works, left .1, left .2);
+        refused = λ n e z. leaves (seal-untouched key bytes lens input output scratch (λ p. z (sym (number ∙ e) ∙ p)) ∙ ap untouched (number ∙ e));
       }
 
   opening : FirstOpen key bytes lens input output scratch
-  unfolding openCall
+  unfolding untouched
   opening =
+      let number = sym (open-numbered key bytes lens input output scratch) in
       record {
         ordered = refl;
-        first = open-first;
-        done = λ e. (simp e (ap (success (length input - 16)) (open-lengths (open-passed key bytes lens input output scratch e))), simp e, simp e);
-        forged = λ e. (simp e (ap forged (open-lengths (open-forged key bytes lens input output scratch e))), simp e, simp e);
-        refused = λ n e z w.
-            let off = ne-eqb n 0 z in
-            let off8 = ne-eqb n 8 w in
-            (simp (e, off, off8), simp (e, off, off8), simp (e, off, off8));
+        first = subst (FirstDue (openTable key bytes lens input output scratch)) number open-first;
+        done = λ e.
+            let left = leaves (open-complete key bytes lens input output scratch (number ∙ e)) in
+            (left .0 ∙ ap (success (length input - 16)) (open-lengths (open-passed key bytes lens input output scratch (number ∙ e))), left .1, left .2);
+        forged = λ e.
+            let left = leaves (open-forgery key bytes lens input output scratch (number ∙ e)) in
+            (left .0 ∙ ap forged (open-lengths (open-forged key bytes lens input output scratch (number ∙ e))), left .1, left .2);
+        refused = λ n e z w. leaves (open-untouched key bytes lens input output scratch (λ p. z (sym (number ∙ e) ∙ p)) (λ p. w (sym (number ∙ e) ∙ p)) ∙ ap untouched (number ∙ e));
       }
 
 -- ---- the C interface
@@ -149,8 +159,8 @@ module _ (keyLength : ℕ) (ring bytes lens input output scratch : List ℕ) whe
   -- with a slot's key the lengths decide, and past them the tag
   slot-number : (i : ℕ) → isKeyLength (length (slotKey keyLength ring i)) ≡ true
       → openSlot keyLength ring bytes lens input output scratch i .outcome .number ≡ first (lengthRows ++ forgedRow (not (genuineAt i)))
-  unfolding openCall openNumber
-  slot-number i k = simp k
+  unfolding openNumber
+  slot-number i k = open-numbered (slotKey keyLength ring i) bytes lens input output scratch ∙ simp k
 
   -- so whole opening with the slot given has the table's number
   chosen-number : {s : ℕ} → first (ringRows keyLength (length ring)) ≡ 0 → Chosen (opensAt keyLength ring bytes lens input output scratch) count s
@@ -183,9 +193,8 @@ module _ (keyLength : ℕ) (ring bytes lens input output scratch : List ℕ) whe
 
     -- a ring's call by its table, whatever rows are put behind the ring's
     by-ring : {result : RingResult} → keeps order (front ++ back) ≡ true → lacks 0 behind ≡ true → lacks 8 behind ≡ true
-        → Comes keyLength ring bytes lens input output scratch (first front) result → FirstRing keyLength ring bytes lens input output scratch (front ++ back) result
-    unfolding openCall
-    by-ring k l l8 (stops z) =
+        → RingCase keyLength ring bytes lens input output scratch (first front) result → FirstRing keyLength ring bytes lens input output scratch (front ++ back) result
+    by-ring k l l8 (refuses z) =
         record {
           ordered = k;
           first = subst (FirstDue (front ++ back)) (first-stop front back z) (first-due (front ++ back));
@@ -194,23 +203,24 @@ module _ (keyLength : ℕ) (ring bytes lens input output scratch : List ℕ) whe
           refused = λ n e m m8. (ap refusal e, refl, refl);
           slotless = λ m. refl;
         }
-    by-ring k l l8 (goes {s} z g) =
+    by-ring k l l8 (tries {s} z g) =
         let one = opening (slotKey keyLength ring s) bytes lens input output scratch in
         let due = first-none (ringRows keyLength (length ring)) behind refl z .0 in
         let number = chosen-number due g in
+        let told = sym (open-numbered (slotKey keyLength ring s) bytes lens input output scratch) in
         record {
           ordered = k;
           first = subst (FirstDue (front ++ back)) (first-pass front back l z ∙ sym number) (first-due (front ++ back));
           done = λ e.
-              let judged = open-passed (slotKey keyLength ring s) bytes lens input output scratch e in
+              let judged = open-passed (slotKey keyLength ring s) bytes lens input output scratch (told ∙ e) in
               let left = one .done e in
               (with-work (left .0) (ring-work keyLength ring bytes lens input output scratch due g judged ∙ ap (tried s) (eq-eqb _ 0 e)), left .1, left .2);
           forged = λ e.
-              let judged = open-forged (slotKey keyLength ring s) bytes lens input output scratch e in
+              let judged = open-forged (slotKey keyLength ring s) bytes lens input output scratch (told ∙ e) in
               let left = one .forged e in
               (with-work (left .0) (ring-work keyLength ring bytes lens input output scratch due g judged ∙ ap (tried s) (ne-eqb _ 0 (λ y. omega (arith, sym e ∙ y)))), left .1, left .2);
           refused = λ n e m m8.
-              let unread = open-unread (slotKey keyLength ring s) bytes lens input output scratch (λ y. m (sym e ∙ y)) (λ y. m8 (sym e ∙ y)) in
+              let unread = open-unread (slotKey keyLength ring s) bytes lens input output scratch (λ y. m (sym (told ∙ e) ∙ y)) (λ y. m8 (sym (told ∙ e) ∙ y)) in
               let left = one .refused n e m m8 in
               (with-work (left .0) (ring-idle keyLength ring bytes lens input output scratch due s (chosen-within _ count (ring-admits keyLength (length ring) due .1 .some) g) unread), left .1, left .2);
           slotless = λ m. chosen-closed _ count g (ne-eqb _ 0 m);
@@ -233,76 +243,33 @@ by-plan h k least {outcome = outcome} g =
 
 -- ---- heads and piecewise calls
 
--- a result that is complete where a number is 0, and the number's refusal else
-record Settled {R : Type 0} (n given : ℕ) (result complete : R) (refusal : ℕ → R) : Type 0 where
-  number : given ≡ n
-  done : n ≡ 0 → result ≡ complete
-  refused : (m : ℕ) → n ≡ m → (m ≡ 0 → ⊥) → result ≡ refusal m
-
-settled : {R : Type 0} (numberIn : R → ℕ) (n : ℕ) (complete : R) (refusal : ℕ → R) → numberIn complete ≡ 0 → ((m : ℕ) → numberIn (refusal m) ≡ m)
-    → Settled n (numberIn (cond (eqb n 0) complete (refusal n))) (cond (eqb n 0) complete (refusal n)) complete refusal
-settled numberIn n complete refusal z named =
-    record {
-      number = go (eqb n 0) refl;
-      done = λ e. ap (λ (t : Bool). cond t complete (refusal n)) (eq-eqb n 0 e);
-      refused = λ m e k. ap (λ (t : Bool). cond t complete (refusal n)) (ne-eqb n 0 (λ p. k (sym e ∙ p))) ∙ ap refusal e;
-    }
-  where
-    go : (t : Bool) → eqb n 0 ≡ t → numberIn (cond t complete (refusal n)) ≡ n
-    go true e = z ∙ sym (eqb-true n 0 e)
-    go false e = named n
-
 rest-ordered : (h : Head) (lens : List ℕ) (restLength : ℕ) → keeps order (restTable h lens restLength) ≡ true
 rest-ordered h lens restLength = refl
 
 rest-tag-ordered : (h : Head) (lens : List ℕ) (restLength tagLength : ℕ) → keeps order (restTable h lens restLength ++ tagRows tagLength) ≡ true
 rest-tag-ordered h lens restLength tagLength = refl
 
-by-head : (table : List Row) (w w′ : ℕ) (h : Head) → keeps order table ≡ true → (first table ≡ 0 → w ≡ w′) → FirstHead table (settleHead (first table) w h) w′ h
+by-head : (table : List Row) (w w′ : ℕ) (h : Head) → keeps order table ≡ true → (first table ≡ 0 → w ≡ w′) → FirstHead table (settle (first table) (madeHead w h) refusedHead) w′ h
 by-head table w w′ h k works =
-    let t = settled (λ (r : MakeResult). r .outcome .number) (first table) (madeHead w h) (λ n. record { outcome = refusal n; head = zeroHead }) refl (λ n. refl) in
+    let number = settle-number (first table) (madeHead w h) refusedHead (λ (r : MakeResult). r .outcome .number) refl (λ n. refl) in
     record {
       ordered = k;
-      first = subst (FirstDue table) (sym (t .number)) (first-due table);
-      done = λ e. let zero = sym (t .number) ∙ e in t .done zero ∙ ap (λ (n : ℕ). madeHead n h) (works zero);
-      refused = λ n e. t .refused n (sym (t .number) ∙ e);
+      first = subst (FirstDue table) (sym number) (first-due table);
+      done = λ e. settle-complete _ (madeHead w h) refusedHead (sym number ∙ e) ∙ ap (λ (n : ℕ). madeHead n h) (works (sym number ∙ e));
+      refused = λ n e z. settle-refused _ (madeHead w h) refusedHead (λ p. z (sym e ∙ number ∙ p)) ∙ ap refusedHead (sym number ∙ e);
     }
 
--- a step that a number settles
-step-settled : (n : ℕ) (done : StepResult) (s : Stream) (output : List ℕ) → done .outcome .number ≡ 0
-    → Settled n (settle n done s output .outcome .number) (settle n done s output) done (λ m. refusedStep m s output)
-step-settled n done s output z = settled (λ (r : StepResult). r .outcome .number) n done (λ m. refusedStep m s output) z (λ m. refl)
-
--- a call whose table gives its number
-by-table : (table : List Row) (done : StepResult) (s : Stream) (output : List ℕ) → keeps order table ≡ true → done .outcome .number ≡ 0
-    → FirstStep table (settle (first table) done s output) done s output
-by-table table done s output k z =
-    let t = step-settled (first table) done s output z in
+-- a piecewise call whose table gives its number; its work is told from lengths
+by-table : (table : List Row) (n w w′ : ℕ) (next s : Stream) (last output : List ℕ) → keeps order table ≡ true → (first table ≡ 0 → w ≡ w′)
+    → FirstStep table (settle (first table) (doneStep n w next last) (λ m. refusedStep m s output)) (doneStep n w′ next last) s output
+by-table table n w w′ next s last output k works =
+    let done : StepResult = doneStep n w next last in
+    let number = settle-number (first table) done (λ m. refusedStep m s output) (λ (r : StepResult). r .outcome .number) refl (λ m. refl) in
     record {
       ordered = k;
-      first = subst (FirstDue table) (sym (t .number)) (first-due table);
-      done = λ e. t .done (sym (t .number) ∙ e);
-      refused = λ n e. t .refused n (sym (t .number) ∙ e);
-    }
-
--- a call on a state, whose work is told from lengths
-by-lengths : (table : List Row) (n w w′ : ℕ) (next s : Stream) (last output : List ℕ) → keeps order table ≡ true → w ≡ w′
-    → FirstStep table (settle (first table) (doneStep n w next last) s output) (doneStep n w′ next last) s output
-by-lengths table n w w′ next s last output k works =
-    subst (λ (m : ℕ). FirstStep table (settle (first table) (doneStep n w next last) s output) (doneStep n m next last) s output) works (by-table table _ s output k refl)
-
--- a begin, whose work is told from lengths
-by-begin : (table : List Row) (w w′ : ℕ) (h : Head) (stage : ℕ) (v : List ℕ) → keeps order table ≡ true → (first table ≡ 0 → w ≡ w′)
-    → FirstStep table (beginBy (first table) w h stage v) (doneStep 0 w′ (start h stage v) []) ended []
-by-begin table w w′ h stage v k works =
-    let t = by-table table (doneStep 0 w (start h stage v) []) ended [] k refl in
-    record {
-      ordered = k;
-      first = t .first;
-      done = λ e.
-          let zero = sym (step-settled (first table) (doneStep 0 w (start h stage v) []) ended [] refl .number) ∙ e in
-          t .done e ∙ ap (λ (n : ℕ). doneStep 0 n (start h stage v) []) (works zero);
-      refused = t .refused;
+      first = subst (FirstDue table) (sym number) (first-due table);
+      done = λ e. settle-complete _ done (λ m. refusedStep m s output) (sym number ∙ e) ∙ ap (λ (v : ℕ). doneStep n v next last) (works (sym number ∙ e));
+      refused = λ m e z. settle-refused _ done (λ i. refusedStep i s output) (λ p. z (sym e ∙ number ∙ p)) ∙ ap (λ (i : ℕ). refusedStep i s output) (sym number ∙ e);
     }
 
 -- the work of a header list's strings, where no refusal is due for key and list
@@ -316,24 +283,17 @@ rest-work h bytes lens e = extended-lengths bytes lens (omega (arith, rest-admit
 finishing : (s : Stream) (output : List ℕ) → FirstFinish s output
 unfolding finishStep
 finishing s output =
-    let n : ℕ = first (finishTable s output) in
     let done : StepResult = doneStep (s .total) (tagOfStateWork s) ended output in
-    let number : finishStep s output .outcome .number ≡ n = go (eqb n 8) refl in
+    let number = settle-verdict (first (finishTable s output)) done (forgedStep s output) (λ m. refusedStep m s output) (λ (r : StepResult). r .outcome .number) refl refl (λ m. refl) in
     record {
       ordered = refl;
       first = subst (FirstDue (finishTable s output)) (sym number) (first-due (finishTable s output));
-      done = λ e.
-          let zero : n ≡ 0 = sym number ∙ e in
-          ap (λ (t : Bool). cond t (forgedStep s output) (settle n done s output)) (ne-eqb n 8 (λ p. omega (arith, p, zero))) ∙ step-settled n done s output refl .done zero;
-      forged = λ e. ap (λ (t : Bool). cond t (forgedStep s output) (settle n done s output)) (eq-eqb n 8 (sym number ∙ e));
-      refused = λ m e k k8.
-          ap (λ (t : Bool). cond t (forgedStep s output) (settle n done s output)) (ne-eqb n 8 (λ p. k8 (sym e ∙ number ∙ p))) ∙ step-settled n done s output refl .refused m (sym number ∙ e) k;
+      done = λ e. settle-complete _ done (forgedOr (forgedStep s output) (λ m. refusedStep m s output)) (sym number ∙ e);
+      forged = λ e. settle-forged _ done (forgedStep s output) (λ m. refusedStep m s output) (sym number ∙ e);
+      refused = λ m e z z8.
+          settle-unread _ done (forgedStep s output) (λ i. refusedStep i s output) (λ p. z (sym e ∙ number ∙ p)) (λ p. z8 (sym e ∙ number ∙ p))
+          ∙ ap (λ (i : ℕ). refusedStep i s output) (sym number ∙ e);
     }
-  where
-    go : (t : Bool) → eqb (first (finishTable s output)) 8 ≡ t
-        → cond t (forgedStep s output) (settle (first (finishTable s output)) (doneStep (s .total) (tagOfStateWork s) ended output) s output) .outcome .number ≡ first (finishTable s output)
-    go true e = sym (eqb-true (first (finishTable s output)) 8 e)
-    go false e = step-settled (first (finishTable s output)) (doneStep (s .total) (tagOfStateWork s) ended output) s output refl .number
 
 -- a refusal by its number
 refusalOf : ℕ → Refusal
@@ -366,38 +326,38 @@ outcome-tells : (a b : Answer) (w w′ : ℕ) → outcomeOf a w ≡ outcomeOf b 
 outcome-tells a b w w′ e = (answer-tells a b w w′ e, sym (outcome-work a w) ∙ ap (λ (o : Outcome). o .work) e ∙ outcome-work b w′)
 
 pub answers-or-first-refusal : First
-unfolding makeHead fitsHead extendHead beginSealer beginOpener beginSealerFrom beginOpenerFrom addStep turnStep writeStep closeStep feedStep sealNumber sealCall openNumber openCall
+unfolding makeHead fitsHead extendHead beginSealer beginOpener beginSealerFrom beginOpenerFrom addStep turnStep writeStep closeStep feedStep sealNumber openNumber
 answers-or-first-refusal =
     record {
       sealing = sealing;
       opening = opening;
-      sealingFromC = λ key header input output scratch ad nonce. from-c _ nonce key output scratch _ refl refl refl;
-      openingFromC = λ key header input output scratch ad nonce. from-c _ nonce key output scratch _ refl refl refl;
+      sealingFromC = λ key header input output scratch ad nonce. from-c _ nonce key output scratch _ refl refl (seal-numbered key header (aeadLens ad nonce) input output scratch);
+      openingFromC = λ key header input output scratch ad nonce. from-c _ nonce key output scratch _ refl refl (open-numbered key header (aeadLens ad nonce) input output scratch);
       openingRing = λ keyLength ring bytes lens input output scratch.
-          by-ring keyLength ring bytes lens input output scratch [] refl refl refl (ring-comes keyLength ring bytes lens input output scratch);
+          by-ring keyLength ring bytes lens input output scratch [] refl refl refl (open-ring-case keyLength ring bytes lens input output scratch);
       openingRingFromC = λ keyLength ring header input output scratch ad nonce.
           by-ring keyLength ring header (aeadLens ad nonce) input output scratch (row 10 (eqb nonce 0) ∷ []) refl refl refl
-          (ring-comes-from-c keyLength ring header input output scratch ad nonce);
+          (ring-case-from-c keyLength ring header input output scratch ad nonce);
       sealingParts = λ key header input output scratch ad nonce. from-c-parts nonce key output scratch _ (seal-count key header (aeadLens ad nonce) input output scratch);
       openingParts = λ key header input output scratch ad nonce. from-c-parts nonce key output scratch _ (omega (arith, open-count key header (aeadLens ad nonce) input output scratch));
       openingRingParts = λ keyLength ring header input output scratch ad nonce.
           ring-parts keyLength ring header (aeadLens ad nonce) input output scratch (row 10 (eqb nonce 0) ∷ [])
-          (ring-comes-from-c keyLength ring header input output scratch ad nonce);
+          (ring-case-from-c keyLength ring header input output scratch ad nonce);
       findingWorst = λ h k least outcome places blocks g. by-plan h k least g;
       findingWorstFromC = λ h k least places given g. by-plan h k least g;
       makingHead = λ key bytes lens. by-head _ _ _ _ refl (header-work key bytes lens);
       extendingHead = λ h bytes lens. by-head _ _ _ _ (rest-ordered h lens (length bytes)) (rest-work h bytes lens);
-      beginningSealer = λ key bytes lens. by-begin _ _ _ (headOf key (strings bytes lens)) 1 zeros refl (header-work key bytes lens);
+      beginningSealer = λ key bytes lens. by-table _ _ _ _ _ _ _ _ refl (header-work key bytes lens);
       beginningOpener = λ key bytes lens tag.
-          by-begin _ _ _ (headOf key (strings bytes lens)) 3 tag refl (λ e. header-work key bytes lens (first-none (headerRows (length key) lens (length bytes)) (tagRows (length tag)) refl e .0));
-      beginningSealerFrom = λ h bytes lens. by-begin _ _ _ (extended h (strings bytes lens)) 1 zeros (rest-ordered h lens (length bytes)) (rest-work h bytes lens);
+          by-table _ _ _ _ _ _ _ _ refl (λ e. header-work key bytes lens (first-none (headerRows (length key) lens (length bytes)) (tagRows (length tag)) refl e .0));
+      beginningSealerFrom = λ h bytes lens. by-table _ _ _ _ _ _ _ _ (rest-ordered h lens (length bytes)) (rest-work h bytes lens);
       beginningOpenerFrom = λ h bytes lens tag.
-          by-begin _ _ _ (extended h (strings bytes lens)) 3 tag (rest-tag-ordered h lens (length bytes) (length tag)) (λ e. rest-work h bytes lens (first-none (restRows h lens (length bytes)) (tagRows (length tag)) refl e .0));
-      adding = λ s piece. by-lengths _ _ _ _ _ _ _ _ refl (added-work s (length piece));
-      turning = λ s output. by-table _ _ _ _ refl refl;
-      writing = λ s piece output. by-lengths _ _ _ _ _ _ _ _ refl (piece-work (s .written) (length piece));
-      closing = λ s. by-table _ _ _ _ refl refl;
-      feeding = λ s piece output. by-lengths _ _ _ _ _ _ _ _ refl (ap₂ _+_ (piece-work (s .total) (length piece)) (added-work s (length piece)));
+          by-table _ _ _ _ _ _ _ _ (rest-tag-ordered h lens (length bytes) (length tag)) (λ e. rest-work h bytes lens (first-none (restRows h lens (length bytes)) (tagRows (length tag)) refl e .0));
+      adding = λ s piece. by-table _ _ _ _ _ _ _ _ refl (λ e. added-work s (length piece));
+      turning = λ s output. by-table _ _ _ _ _ _ _ _ refl (λ e. refl);
+      writing = λ s piece output. by-table _ _ _ _ _ _ _ _ refl (λ e. piece-work (s .written) (length piece));
+      closing = λ s. by-table _ _ _ _ _ _ _ _ refl (λ e. refl);
+      feeding = λ s piece output. by-table _ _ _ _ _ _ _ _ refl (λ e. ap₂ _+_ (piece-work (s .total) (length piece)) (added-work s (length piece)));
       finishing = finishing;
       outcomeTells = outcome-tells;
     }

@@ -1,8 +1,9 @@
--- A list divided into a head and the rest gives what the undivided list gives: both are judged alike, and D goes on where the head left it.
+-- A list divided into a head and the rest gives what the undivided list gives:
+-- both are judged alike, and D goes on where the head left it.
 -- Assumes nothing.
 use mathlib.Core.Path.{_≡_, refl, ap, ap₂, sym, subst, _∙_}
-use mathlib.Core.Bool.{Bool, true, false, not, cond}
-use mathlib.Core.List.{List, [], _++_}
+use mathlib.Core.Bool.{Bool, false, not, cond}
+use mathlib.Core.List.{List, _++_}
 use Prim.Native.Nat.{ℕ, _+_, _≤_}
 use native.Mathlib.Omega.{arith}
 use lib.Dec.{eqb, ltb}
@@ -14,19 +15,19 @@ use Rattle.cmac.specs.Cmac.{zeros}
 use Rattle.header.specs.Header.{total, strings}
 use Rattle.header.specs.Blocks.{blocksOfAll}
 use Rattle.header.proofs.Laws.{total-append, total-take, strings-append, length-strings, strings-within, blocks-append}
-use Rattle.answers.specs.Answer.{Row, first}
-use Rattle.answers.proofs.Laws.{first-append}
+use Rattle.answers.specs.Answer.{Row, first, settle}
+use Rattle.answers.proofs.Laws.{first-append, alike}
 use Rattle.whole.specs.Calls.{headerRows}
 use Rattle.whole.proofs.Laws.{halves}
 use Rattle.head.specs.declared.Head.{Head}
-use Rattle.head.specs.Head.{headOf, headOfWork, extended, extendedWork, fitsHead, restRows, MakeResult, madeHead, settleHead, makeHead, extendHead}
+use Rattle.head.specs.Head.{headOf, headOfWork, extended, extendedWork, fitsHead, restRows, MakeResult, madeHead, refusedHead, makeHead, extendHead}
 use Rattle.head.proofs.Laws.{head-lengths, extended-lengths, extended-head}
-use Rattle.stream.specs.State.{ended, start}
-use Rattle.stream.specs.Steps.{StepResult, doneStep, refusedStep, tagRows, beginBy, beginSealer, beginOpener, beginSealerFrom, beginOpenerFrom}
+use Rattle.stream.specs.State.{start}
+use Rattle.stream.specs.Steps.{StepResult, tagRows, beginBy, beginSealer, beginOpener, beginSealerFrom, beginOpenerFrom}
 use Rattle.demands.specs.Head.{SameButWork, Split, Heads}
 use Rattle.demands.specs.Run.{Begin, sealer, opener, Start, undivided, divided, begunFrom, firstBytes, restBytes, begun}
 use Rattle.demands.specs.Third.{beginWork}
-use Rattle.demands.specs.Whole.{Admits}
+use Rattle.demands.specs.Second.{Admits}
 use Rattle.demands.proofs.First.{answers-or-first-refusal}
 
 -- no refusal is due for an admitted key and list
@@ -37,7 +38,7 @@ admitted key bytes lens a = simp (a .keyed, le-ltb 126 (length lens) (a .countFi
 pub made : (key bytes lens : List ℕ) → Admits key bytes lens → makeHead key bytes lens ≡ madeHead (2 + blocksOfAll lens) (headOf key (strings bytes lens))
 unfolding makeHead
 made key bytes lens a =
-    ap₂ (λ (n w : ℕ). settleHead n w (headOf key (strings bytes lens))) (admitted key bytes lens a) (head-lengths bytes lens (omega (arith, a .sums)))
+    ap₂ (λ (n w : ℕ). settle n (madeHead w (headOf key (strings bytes lens))) refusedHead) (admitted key bytes lens a) (head-lengths bytes lens (omega (arith, a .sums)))
 
 -- a begin that succeeds reports the blocks of its strings, and 2 where it makes L and the CMAC of the zero block
 pub begun-work : (key bytes lens : List ℕ) (start : Start) (begin : Begin) → begun key bytes lens start begin .outcome .number ≡ 0
@@ -81,11 +82,8 @@ module _ (key bytes lens more moreLens : List ℕ) (a : Admits key bytes lens) w
 
   -- begins that differ in their work alone
   same : (n w w′ : ℕ) (h : Head) (stage : ℕ) (v : List ℕ) → SameButWork (beginBy n w h stage v) (beginBy n w′ h stage v)
-  same n w w′ h stage v = go (eqb n 0)
-    where
-      go : (t : Bool) → SameButWork (cond t (doneStep 0 w (start h stage v) []) (refusedStep n ended [])) (cond t (doneStep 0 w′ (start h stage v) []) (refusedStep n ended []))
-      go true = record { number = refl; count = refl; state = refl; output = refl }
-      go false = record { number = refl; count = refl; state = refl; output = refl }
+  same n w w′ h stage v =
+      alike SameButWork (eqb n 0) (record { number = refl; count = refl; state = refl; output = refl }) (record { number = refl; count = refl; state = refl; output = refl })
 
   joins : (begin : Begin) → SameButWork (begunFrom (makeHead key bytes lens .head) more moreLens begin) (begun key (bytes ++ more) (lens ++ moreLens) undivided begin)
   unfolding beginSealer beginOpener beginSealerFrom beginOpenerFrom
@@ -112,7 +110,7 @@ module _ (key bytes lens more moreLens : List ℕ) (a : Admits key bytes lens) w
   unfolding extendHead
   extends sums z =
       ap (λ (r : MakeResult). extendHead (r .head) more moreLens) (made key bytes lens a)
-      ∙ ap₂ (λ (n : ℕ) (g : Head). settleHead n (extendedWork (strings more moreLens)) g) (same-number ∙ z) same-head
+      ∙ ap₂ (λ (n : ℕ) (g : Head). settle n (madeHead (extendedWork (strings more moreLens)) g) refusedHead) (same-number ∙ z) same-head
       ∙ ap (λ (w : ℕ). madeHead w (headOf key (strings (bytes ++ more) (lens ++ moreLens)))) (extended-lengths more moreLens sums)
 
 -- a list that is divided is what it is joined from

@@ -1,6 +1,7 @@
 pub mod Cases
 pub mod Siv
 pub mod Whole
+pub mod Second
 pub mod Slots
 pub mod Parts
 pub mod First

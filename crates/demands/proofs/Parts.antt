@@ -10,7 +10,7 @@ use Rattle.answers.specs.Answer.{Row, first}
 use Rattle.answers.proofs.Laws.{first-none}
 use Rattle.whole.specs.Calls.{CallResult, limit}
 use Rattle.whole.specs.Ring.{ringRows, RingResult}
-use Rattle.whole.proofs.Ring.{Comes, comes-small}
+use Rattle.whole.proofs.Ring.{RingCase, ring-case-small}
 use Rattle.kinphlor.specs.Interface.{packed, emptyNonce, fromC, packedRing}
 use Rattle.demands.specs.First.{Parts}
 
@@ -33,8 +33,8 @@ from-c-parts nonce key output scratch call h =
     go false e = simp e h
 
 pub ring-parts : (keyLength : ℕ) (ring bytes lens input output scratch : List ℕ) (behind : List Row) {r : RingResult}
-    → Comes keyLength ring bytes lens input output scratch (first (ringRows keyLength (length ring) ++ behind)) r
+    → RingCase keyLength ring bytes lens input output scratch (first (ringRows keyLength (length ring) ++ behind)) r
     → Parts (packedRing (r .slot) (r .call .outcome)) (r .call .outcome .number) (r .slot) (r .call .outcome .count)
 ring-parts keyLength ring bytes lens input output scratch behind {r} c =
-    let small = comes-small keyLength ring bytes lens input output scratch (λ z. first-none (ringRows keyLength (length ring)) behind refl z .0) c in
+    let small = ring-case-small keyLength ring bytes lens input output scratch (λ z. first-none (ringRows keyLength (length ring)) behind refl z .0) c in
     parts _ _ (r .slot) _ refl (omega (arith, small .0)) (omega (arith, small .1))

@@ -1,4 +1,5 @@
--- The state after a begin and any pieces, in one form: pieces join, the state fits its calls, and it gives the tag and the key stream of RFC 5297.
+-- The state after a begin and any pieces, in one form: pieces join,
+-- the state fits its calls, and it gives the tag and the key stream of RFC 5297.
 -- Assumes nothing.
 use mathlib.Core.Path.{_≡_, refl, ap, ap₂, sym, _∙_}
 use mathlib.Core.Bool.{Bool, true, false, not, cond, _||_}
@@ -119,7 +120,8 @@ module _ (key : List ℕ) (ss : List (List ℕ)) where
         tail = tailOf (drop (16 * passedBlocks (length P)) P);
       }
 
-  -- the states that the model knows: while A is added; while W is written of it; and while P is what was fed, deciphered
+  -- the states that the model knows: while A is added;
+  -- while W is written of it; and while P is what was fed, deciphered
   abbrev pub addingState : List ℕ → Stream
   addingState A = stateOf 1 zeros zeros 0 A
 

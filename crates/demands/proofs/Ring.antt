@@ -17,10 +17,11 @@ use Rattle.whole.specs.Calls.{isKeyLength, limit, scratchNeed, openNumber, open
 use Rattle.whole.specs.declared.Found.{Found}
 use Rattle.whole.specs.Ring.{isRing, slotCount, slotKey, ringRows, triedWork, RingResult, openSlot, opensAt, workAt, openSlotWith, openRing}
 use Rattle.whole.specs.Work.{blockWork}
-use Rattle.whole.proofs.Ring.{key-length-some, whole-ring, slot-keyed, Chosen, found, none, chosen-within, Comes, goes, stops, ring-comes, ring-work}
+use Rattle.whole.proofs.Ring.{key-length-some, whole-ring, slot-keyed, Chosen, found, none, chosen-within, RingCase, tries, refuses, open-ring-case, ring-work}
 use Rattle.kinphlor.specs.Interface.{aeadLens, emptyNonce, fromC, openFromC, emptyNonceRing, openRingFromC}
 use Rattle.demands.specs.Ring.{IsRing, Opens, BySlot, SealsUnder, ThirdRing, Ring}
-use Rattle.demands.specs.Whole.{Admits, ThirdWhole}
+use Rattle.demands.specs.Second.{Admits}
+use Rattle.demands.specs.Whole.{ThirdWhole}
 use Rattle.demands.proofs.Siv.{length-sealed}
 use Rattle.demands.proofs.Whole.{judged, accepts-the-sealed}
 
@@ -39,15 +40,15 @@ module _ (keyLength slots : ℕ) (ring bytes lens input output scratch : List �
   by-given : (P : RingResult → Type 0)
       → ((s : ℕ) → Chosen (opensAt keyLength ring bytes lens input output scratch) slots s → P (given keyLength slots ring bytes lens input output scratch s))
       → P (openRing keyLength ring bytes lens input output scratch)
-  by-given P f = go (ring-comes keyLength ring bytes lens input output scratch)
+  by-given P f = go (open-ring-case keyLength ring bytes lens input output scratch)
     where
       is : (isRing keyLength (length ring) ≡ true) × (slotCount keyLength (length ring) ≡ slots)
       is = whole-ring keyLength slots (length ring) (key-length-some keyLength (r .keyed)) (r .whole) (r .some) (r .most)
 
-      go : {result : RingResult} → Comes keyLength ring bytes lens input output scratch (first (ringRows keyLength (length ring))) result → P result
-      go (goes {s} z g) =
+      go : {result : RingResult} → RingCase keyLength ring bytes lens input output scratch (first (ringRows keyLength (length ring))) result → P result
+      go (tries {s} z g) =
           subst P (ap (λ (n : ℕ). given keyLength n ring bytes lens input output scratch s) (sym (is .1))) (f s (subst (λ (n : ℕ). Chosen (opensAt keyLength ring bytes lens input output scratch) n s) (is .1) g))
-      go (stops z) = absurd (z (simp (r .keyed, is .0)))
+      go (refuses z) = absurd (z (simp (r .keyed, is .0)))
 
 -- ---- the slot
 

@@ -11,7 +11,7 @@ use lib.ListN.{length}
 use Rattle.answers.specs.Answer.{row, first}
 use Rattle.whole.specs.Calls.{isKeyLength}
 use Rattle.whole.specs.Ring.{isRing, ringRows, openRing}
-use Rattle.whole.proofs.Ring.{Chosen, found, none, Comes, cameTo, comes}
+use Rattle.whole.proofs.Ring.{Chosen, found, none, RingCase, ringBy, ring-case}
 use Rattle.kinphlor.specs.Interface.{aeadLens, emptyNonceRing, openRingFromC}
 use Rattle.demands.specs.First.{noSlot}
 
@@ -35,18 +35,18 @@ chosen-noSlot test n z (none p) = ap not (p 0 z) ∙ sym (noSlot-none test n p)
 -- ---- the C interface
 
 module _ (keyLength : ℕ) (ring header input output scratch : List ℕ) (ad nonce : ℕ) where
-  pub ring-comes-from-c : Comes keyLength ring header (aeadLens ad nonce) input output scratch (first (ringRows keyLength (length ring) ++ (row 10 (eqb nonce 0) ∷ [])))
+  pub ring-case-from-c : RingCase keyLength ring header (aeadLens ad nonce) input output scratch (first (ringRows keyLength (length ring) ++ (row 10 (eqb nonce 0) ∷ [])))
       (openRingFromC keyLength ring header ad nonce input output scratch)
   unfolding openRingFromC emptyNonceRing openRing
-  ring-comes-from-c =
-      subst (Comes keyLength ring header (aeadLens ad nonce) input output scratch number) (sym (go (isKeyLength keyLength) refl (isRing keyLength (length ring)) refl (eqb nonce 0) refl))
-      (comes keyLength ring header (aeadLens ad nonce) input output scratch number)
+  ring-case-from-c =
+      subst (RingCase keyLength ring header (aeadLens ad nonce) input output scratch number) (sym (go (isKeyLength keyLength) refl (isRing keyLength (length ring)) refl (eqb nonce 0) refl))
+      (ring-case keyLength ring header (aeadLens ad nonce) input output scratch number)
     where
       number : ℕ
       number = first (ringRows keyLength (length ring) ++ (row 10 (eqb nonce 0) ∷ []))
 
       go : (a : Bool) → isKeyLength keyLength ≡ a → (b : Bool) → isRing keyLength (length ring) ≡ b → (c : Bool) → eqb nonce 0 ≡ c
-          → openRingFromC keyLength ring header ad nonce input output scratch ≡ cameTo keyLength ring header (aeadLens ad nonce) input output scratch number
+          → openRingFromC keyLength ring header ad nonce input output scratch ≡ ringBy keyLength ring header (aeadLens ad nonce) input output scratch number
       go false e b f c g = simp e
       go true e false f c g = simp (e, f)
       go true e true f true g = simp (e, f, g)

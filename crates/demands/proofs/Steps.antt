@@ -1,4 +1,5 @@
--- One call on a state that the model knows: it gives what the model says, and the state after it is again one that the model knows.
+-- One call on a state that the model knows: it gives what the model says,
+-- and the state after it is again one that the model knows.
 -- Assumes nothing.
 use mathlib.Core.Path.{_≡_, refl, ap, ap₂, sym, subst, _∙_}
 use mathlib.Core.Bool.{Bool, true, false, not, cond}
@@ -17,18 +18,18 @@ use Rattle.header.specs.Header.{strings}
 use Rattle.header.specs.Blocks.{sixteenths, blocksOf}
 use Rattle.keystream.specs.KeyStream.{xorStream}
 use Rattle.keystream.specs.Pieces.{begunBlock, pieceWork}
-use Rattle.answers.specs.Answer.{first, success, refusal, forged}
+use Rattle.answers.specs.Answer.{first, settle, success, refusal, forged}
 use Rattle.answers.proofs.Laws.{none-where}
 use Rattle.whole.specs.Calls.{limit, scratchNeed}
 use Rattle.whole.specs.Siv.{ctrKey, tagOf, streamed, opened, genuine}
 use Rattle.whole.proofs.Laws.{by-tag, length-streamed, put-over}
 use Rattle.stream.specs.declared.Stream.{Stream}
-use Rattle.stream.specs.State.{ended, keptFits, fits, added, addedWork, tagOfState, tagOfStateWork, streamedAt, streamedWith}
-use Rattle.stream.specs.Steps.{StepResult, doneStep, refusedStep, settle, feedRows, turned, wrote, deciphered, addStep, turnStep, writeStep, closeStep, feedStep, forgedStep, finishStep}
+use Rattle.stream.specs.State.{ended, keptFits, fits, added, addedWork, tagOfState, tagOfStateWork, streamedAt, streamedWith, turned}
+use Rattle.stream.specs.Steps.{StepResult, doneStep, refusedStep, feedRows, wrote, deciphered, addStep, turnStep, writeStep, closeStep, feedStep, forgedStep, finishStep}
 use Rattle.stream.proofs.Laws.{length-streamedAt}
 use Rattle.demands.specs.Model.{ModelState, wants, chained, After, wholeAccepts, shown, outputBefore, outputAfter, modelAfter, countAfter, workAfter, modelStep}
 use Rattle.demands.specs.Run.{Begin, sealer, opener, Call, add, turn, write, close, feed, finish, call, lent, sharedAfter}
-use Rattle.demands.specs.Whole.{Admits}
+use Rattle.demands.specs.Second.{Admits}
 use Rattle.demands.proofs.Pieces.{begun-none, begun-zero, piece-work, added-work, stateOf, addingState, writingState, feedingState, join, fits-state, tag-state, tag-state-work, stream-state, kept-state, streamed-append, streamed-rest}
 use Rattle.demands.proofs.Whole.{judged}
 
@@ -333,9 +334,9 @@ module _ (key bytes lens shared : List ℕ) (a : Admits key bytes lens) where
         settled : (n : ℕ) → cond (ltb limit (length A + length piece)) 4 (cond (ltb (length shared) (length A + length piece)) 6 0) ≡ n
             → call SF o (feed piece)
             ≡ settle n
-            (doneStep (length piece) (workAfter key bytes lens (opener T) shared bF (feed piece)) (feedingState key ss T (streamed key T (A ++ piece))) (put shared 0 (streamed key T (A ++ piece)))) SF o
+            (doneStep (length piece) (workAfter key bytes lens (opener T) shared bF (feed piece)) (feedingState key ss T (streamed key T (A ++ piece))) (put shared 0 (streamed key T (A ++ piece)))) (λ m. refusedStep m SF o)
         settled n e =
-            ap₂ (λ (k : ℕ) (r : StepResult). settle k r SF o) (number ∙ e)
+            ap₂ (λ (k : ℕ) (r : StepResult). settle k r (λ m. refusedStep m SF o)) (number ∙ e)
             (ap₂ (λ (s : Stream) (x : List ℕ). doneStep (length piece) (pieceWork (length P) (length piece) + addedWork SF (length piece)) s x) state last
             ∙ ap (λ (w : ℕ). doneStep (length piece) w (feedingState key ss T (streamed key T (A ++ piece))) (put shared 0 (streamed key T (A ++ piece)))) work)
 

@@ -1,4 +1,5 @@
--- The field follows its rule, and nothing but 9 depends on it: where the field is right, 9 judges what it judges without it.
+-- The field follows its rule, and nothing but 9 depends on it:
+-- where the field is right, 9 judges what it judges without it.
 -- Assumes nothing.
 use mathlib.Core.Path.{_≡_, refl, ap, ap₂, sym, subst, _∙_}
 use mathlib.Core.Bool.{Bool, true, false, not, cond, and-true, and-false, _&&_}
@@ -11,13 +12,14 @@ use borrow.Author.Tests.{eq-eqb, ne-eqb}
 use Rattle.octets.specs.Octets.{allZero}
 use Rattle.aes.specs.Aes.{isWidth}
 use Rattle.s2v.specs.S2v.{tailLength}
-use Rattle.answers.specs.Answer.{Outcome, Row}
+use Rattle.answers.specs.Answer.{Outcome, Row, settle, forgedOr}
+use Rattle.answers.proofs.Laws.{alike}
 use Rattle.whole.specs.Calls.{limit}
 use Rattle.whole.proofs.Laws.{length-streamed}
 use Rattle.head.specs.declared.Head.{Head}
 use Rattle.stream.specs.declared.Stream.{Stream}
 use Rattle.stream.specs.State.{ended, writtenLimit, keptFits, fits, added, addedWork, tagOfState, tagOfStateWork, streamedAt, keptAt}
-use Rattle.stream.specs.Steps.{StepResult, doneStep, refusedStep, settle, addStep, turnStep, writeStep, closeStep, feedStep, finishStep}
+use Rattle.stream.specs.Steps.{StepResult, doneStep, refusedStep, addStep, turnStep, writeStep, closeStep, feedStep, finishStep}
 use Rattle.demands.specs.First.{FirstStep, FirstFinish}
 use Rattle.demands.specs.Model.{ModelState, fresh, wants}
 use Rattle.demands.specs.Run.{Begin, sealer, opener, Start, undivided, divided, Call, add, turn, write, close, feed, finish, begunFrom, begun, call, sharedAfter, Entry, runBy, run}
@@ -51,21 +53,16 @@ module _ (wanted : ℕ) (s : Stream) where
 
 -- two results by one number, on a state with either figure
 module _ (s : Stream) (n count work : ℕ) (a b : Stream) (like : SameButTailLen a b) (last o : List ℕ) where
-  settled : (number : ℕ) → SameStep (settle number (doneStep count work a last) s o) (settle number (doneStep count work b last) (withTailLen n s) o)
-  settled number = go (eqb number 0)
-    where
-      go : (t : Bool) → SameStep (cond t (doneStep count work a last) (refusedStep number s o)) (cond t (doneStep count work b last) (refusedStep number (withTailLen n s) o))
-      go true = record { outcome = refl; state = like; output = refl }
-      go false = record { outcome = refl; state = refl; output = refl }
+  settled : (number : ℕ)
+      → SameStep (settle number (doneStep count work a last) (λ m. refusedStep m s o)) (settle number (doneStep count work b last) (λ m. refusedStep m (withTailLen n s) o))
+  settled number = alike SameStep (eqb number 0) (record { outcome = refl; state = like; output = refl }) (record { outcome = refl; state = refl; output = refl })
 
-  -- finish has 8 before that
+  -- finish has 8 too
   settled-or : (forged : StepResult) (number : ℕ)
-      → SameStep (cond (eqb number 8) forged (settle number (doneStep count work a last) s o)) (cond (eqb number 8) forged (settle number (doneStep count work b last) (withTailLen n s) o))
-  settled-or forged number = go (eqb number 8)
-    where
-      go : (t : Bool) → SameStep (cond t forged (settle number (doneStep count work a last) s o)) (cond t forged (settle number (doneStep count work b last) (withTailLen n s) o))
-      go true = record { outcome = refl; state = refl; output = refl }
-      go false = settled number
+      → SameStep (settle number (doneStep count work a last) (forgedOr forged (λ m. refusedStep m s o))) (settle number (doneStep count work b last) (forgedOr forged (λ m. refusedStep m (withTailLen n s) o)))
+  settled-or forged number =
+      alike SameStep (eqb number 0) (record { outcome = refl; state = like; output = refl })
+      (alike SameStep (eqb number 8) (record { outcome = refl; state = refl; output = refl }) (record { outcome = refl; state = refl; output = refl }))
 
 -- the number is one where 9 is judged alike and the rows behind it are the same
 by-nine : {x y : ℕ → StepResult} → ((number : ℕ) → SameStep (x number) (y number)) → (f g : Bool) (rest : ℕ) → f ≡ g

@@ -1,4 +1,5 @@
--- The third demand holds: by induction over the list of calls, from one relation between a state and what the model keeps.
+-- The third demand holds: by induction over the list of calls,
+-- from one relation between a state and what the model keeps.
 -- Assumes nothing.
 use mathlib.Core.Path.{_≡_, refl, ap, ap₂, sym, subst, _∙_}
 use mathlib.Core.Bool.{Bool, true, false, not, true≢false, false≢true, cond, _||_}
@@ -30,7 +31,7 @@ use Rattle.stream.specs.Steps.{StepResult, doneStep, tagRows, beginBy, beginSea
 use Rattle.demands.specs.Model.{ModelState, After, fresh, wants, wholeAccepts, outputBefore, workAfter, modelNumber, modelStep, modelRun}
 use Rattle.demands.specs.Run.{Begin, sealer, opener, Start, undivided, divided, Call, add, turn, write, close, feed, finish, begun, Entry, run}
 use Rattle.demands.specs.Third.{beginWork, onePiece, gaveBy, gave, noFinish, AsModel, AsSealed, fed, AsOpened, ThirdDemand}
-use Rattle.demands.specs.Whole.{Admits}
+use Rattle.demands.specs.Second.{Admits}
 use Rattle.demands.proofs.Head.{admitted, begun-work, divided-as-undivided}
 use Rattle.demands.proofs.Pieces.{begun-zero, stateOf, addingState, writingState, feedingState, begin-state, streamed-append, streamed-rest}
 use Rattle.demands.proofs.Siv.{length-tag}

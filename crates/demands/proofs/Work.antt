@@ -1,7 +1,8 @@
--- Slip 5's promises hold: calls report what was planned, the answers of a list add up, and the kept block is the key stream's own.
+-- Slip 5's promises hold: calls report what was planned,
+-- the answers of a list add up, and the kept block is the key stream's own.
 -- Assumes nothing.
-use mathlib.Core.Path.{_≡_, refl, ap, ap₂, sym, _∙_}
-use mathlib.Core.Bool.{Bool, true, false, not, cond, and-false, true≢false, _&&_, _||_}
+use mathlib.Core.Path.{_≡_, refl, ap, ap₂, sym, subst, _∙_}
+use mathlib.Core.Bool.{Bool, true, false, not, cond, and-false, _&&_, _||_}
 use mathlib.Core.List.{List, [], _∷_, _++_, append-nil}
 use Prim.Native.Nat.{ℕ, _+_, _-_, _*_, _%_, _≤_}
 use native.Mathlib.Nat.{zero-add}
@@ -21,28 +22,28 @@ use Rattle.s2v.specs.S2v.{tailLength}
 use Rattle.keystream.specs.KeyStream.{xorStream}
 use Rattle.keystream.specs.Pieces.{noBlock, begunBlock, leftOver, pieceWork, xorPiece, keptAfter}
 use Rattle.keystream.proofs.Laws.{xorPiece-within, xorPiece-beyond, keptAfter-within, keptAfter-beyond}
-use Rattle.answers.specs.Answer.{Outcome, Row, row, first, success, refusal}
-use Rattle.answers.proofs.Laws.{lacks, first-not, first-none, not-due}
+use Rattle.answers.specs.Answer.{Outcome, Row, row, first, settle, forgedOr}
+use Rattle.answers.proofs.Laws.{lacks, first-not, first-none, not-due, alike}
 use Rattle.whole.specs.Calls.{CallResult, refusedCall, isKeyLength, limit, sealTable, sealNumber, sealCall, openNumber, openCall}
 use Rattle.whole.specs.Ring.{ringRows, slotCount, slotKey, RingResult}
 use Rattle.whole.specs.Siv.{ctrKey}
 use Rattle.whole.specs.Work.{blockWork, plannedWork}
-use Rattle.whole.proofs.Laws.{seal-admits, openJudged, open-admits, open-passed, open-forged, length-streamed}
-use Rattle.whole.proofs.Ring.{Comes, goes, stops, ring-comes}
+use Rattle.whole.proofs.Laws.{seal-admits, seal-numbered, openJudged, open-admits, open-passed, open-forged, open-numbered, length-streamed}
+use Rattle.whole.proofs.Ring.{RingCase, tries, refuses, open-ring-case}
 use Rattle.stream.specs.declared.Stream.{Stream}
-use Rattle.stream.specs.State.{ended, writtenLimit, streamPlace, keptFits, fits, added, addedWork, tagOfState, tagOfStateWork, streamedAt, keptAt, streamedWith}
-use Rattle.stream.specs.Steps.{doneStep, refusedStep, settle, addStep, turned, turnStep, wrote, writeStep, closeStep, deciphered, feedStep, finishTable, forgedStep, finishStep}
+use Rattle.stream.specs.State.{ended, writtenLimit, streamPlace, keptFits, fits, added, addedWork, tagOfState, tagOfStateWork, streamedAt, keptAt, streamedWith, turned}
+use Rattle.stream.specs.Steps.{StepResult, doneStep, refusedStep, addStep, turnStep, wrote, writeStep, closeStep, deciphered, feedStep, finishTable, forgedStep, finishStep}
 use Rattle.kinphlor.specs.Interface.{aeadLens, emptyNonce, fromC, sealFromC, openFromC, openRingFromC, plannedFromC}
 use Rattle.demands.specs.First.{ringTable, FirstRing}
 use Rattle.demands.specs.Model.{ModelState, fresh, wants, chained, After, wholeAccepts, modelStep, modelRun}
 use Rattle.demands.specs.Run.{Begin, sealer, opener, Start, undivided, divided, Call, add, turn, write, close, feed, finish, begun, call}
 use Rattle.demands.specs.Third.{beginWork, AsModel}
-use Rattle.demands.specs.Whole.{Admits}
+use Rattle.demands.specs.Second.{Admits}
 use Rattle.demands.specs.Work.{Reported, ReportedRing, workOf, headWork, AddsUp, ownBlock, BlockWork}
 use Rattle.demands.proofs.First.{answers-or-first-refusal}
 use Rattle.demands.proofs.Head.{divided-as-undivided}
 use Rattle.demands.proofs.Pieces.{tag-of-state-work}
-use Rattle.demands.proofs.Slots.{ring-comes-from-c}
+use Rattle.demands.proofs.Slots.{ring-case-from-c}
 use Rattle.demands.proofs.Steps.{modelOf, Known, adding, writing, closed, feeding, finished, known-stage, call-misfit, model-wrong, unwanted, step}
 use Rattle.demands.proofs.Third.{runs, sealer-known, opener-known, accepts-the-sealed-and-follows-the-model}
 
@@ -55,13 +56,14 @@ planned lens n countFits within = simp (le-ltb 126 (length lens) countFits, le-l
 
 module _ (key bytes lens input output scratch : List ℕ) where
   seals : Reported (sealCall key bytes lens input output scratch) (plannedWork lens (length input))
-  unfolding sealCall sealNumber
+  unfolding sealNumber
   seals =
+      let number = sym (seal-numbered key bytes lens input output scratch) in
       record {
         done = λ e.
-            let admitted = seal-admits key bytes lens input output scratch e in
+            let admitted = seal-admits key bytes lens input output scratch (number ∙ e) in
             ap (λ (o : Outcome). o .work) (answers-or-first-refusal .sealing key bytes lens input output scratch .done e .0) ∙ planned lens (length input) (admitted .countFits) (admitted .limited);
-        forged = λ e. absurd (first-not 8 (sealTable key bytes lens input output scratch) refl (λ z. omega (arith, z)) e);
+        forged = λ e. absurd (first-not 8 (sealTable key bytes lens input output scratch) refl (λ z. omega (arith, z)) (number ∙ e));
       }
 
   -- opening reports the sum of its lengths, for 8 as for success
@@ -78,11 +80,11 @@ module _ (key bytes lens input output scratch : List ℕ) where
       planned lens (length input - 16) (admitted .countFits) (omega (arith, admitted .limited))
 
   opens : Reported (openCall key bytes lens input output scratch) (plannedWork lens (length input - 16))
-  unfolding openCall
   opens =
+      let number = sym (open-numbered key bytes lens input output scratch) in
       record {
-        done = λ e. opened-work .done e ∙ open-planned (open-passed key bytes lens input output scratch e);
-        forged = λ e. opened-work .forged e ∙ open-planned (open-forged key bytes lens input output scratch e);
+        done = λ e. opened-work .done e ∙ open-planned (open-passed key bytes lens input output scratch (number ∙ e));
+        forged = λ e. opened-work .forged e ∙ open-planned (open-forged key bytes lens input output scratch (number ∙ e));
       }
 
 -- from C: where the key is none to refuse, an empty nonce is refused
@@ -98,29 +100,33 @@ from-c key output scratch ad nonce n call r unkeyed = go (isKeyLength (length ke
 
 module _ (key header input output scratch : List ℕ) (ad nonce : ℕ) where
   seals-from-c : Reported (sealFromC key header ad nonce input output scratch) (plannedFromC ad nonce (length input))
-  unfolding sealCall sealNumber
-  seals-from-c = from-c key output scratch ad nonce (length input) _ (seals key header (aeadLens ad nonce) input output scratch) (λ k. simp k)
+  unfolding sealNumber
+  seals-from-c =
+      from-c key output scratch ad nonce (length input) _ (seals key header (aeadLens ad nonce) input output scratch)
+      (λ k. seal-numbered key header (aeadLens ad nonce) input output scratch ∙ simp k)
 
   opens-from-c : Reported (openFromC key header ad nonce input output scratch) (plannedFromC ad nonce (length input - 16))
-  unfolding openCall openNumber
-  opens-from-c = from-c key output scratch ad nonce (length input - 16) _ (opens key header (aeadLens ad nonce) input output scratch) (λ k. simp k)
+  unfolding openNumber
+  opens-from-c =
+      from-c key output scratch ad nonce (length input - 16) _ (opens key header (aeadLens ad nonce) input output scratch)
+      (λ k. open-numbered key header (aeadLens ad nonce) input output scratch ∙ simp k)
 
 -- ---- a ring
 
 module _ (keyLength : ℕ) (ring bytes lens input output scratch : List ℕ) (behind : List Row) where
   -- a ring whose rows, with those put behind them, do not refuse it reports one plan for each key that it tries
   ring-reports : {result : RingResult} (plan : ℕ) → lacks 8 behind ≡ true
-      → Comes keyLength ring bytes lens input output scratch (first (ringRows keyLength (length ring) ++ behind)) result
+      → RingCase keyLength ring bytes lens input output scratch (first (ringRows keyLength (length ring) ++ behind)) result
       → FirstRing keyLength ring bytes lens input output scratch (ringTable keyLength ring bytes lens input output scratch behind) result
       → (first (ringRows keyLength (length ring) ++ behind) ≡ 0 → plannedWork lens (length input - 16) ≡ plan) → ReportedRing (slotCount keyLength (length ring)) result plan
-  unfolding openCall
-  ring-reports plan l (stops z) f p =
+  ring-reports plan l (refuses z) f p =
       record { done = λ e. absurd (z e); forged = λ e. absurd (first-not 8 (ringRows keyLength (length ring) ++ behind) l (λ k. omega (arith, k)) e) }
-  ring-reports plan l (goes {s} z g) f p =
+  ring-reports plan l (tries {s} z g) f p =
+      let number = sym (open-numbered (slotKey keyLength ring s) bytes lens input output scratch) in
       record {
-        done = λ e. ap (λ (o : Outcome). o .work) (f .done e .0) ∙ ap (λ (w : ℕ). (s + 1) * w) (as-planned (open-passed (slotKey keyLength ring s) bytes lens input output scratch e));
+        done = λ e. ap (λ (o : Outcome). o .work) (f .done e .0) ∙ ap (λ (w : ℕ). (s + 1) * w) (as-planned (open-passed (slotKey keyLength ring s) bytes lens input output scratch (number ∙ e)));
         forged = λ e.
-            ap (λ (o : Outcome). o .work) (f .forged e .0) ∙ ap (λ (w : ℕ). slotCount keyLength (length ring) * w) (as-planned (open-forged (slotKey keyLength ring s) bytes lens input output scratch e));
+            ap (λ (o : Outcome). o .work) (f .forged e .0) ∙ ap (λ (w : ℕ). slotCount keyLength (length ring) * w) (as-planned (open-forged (slotKey keyLength ring s) bytes lens input output scratch (number ∙ e)));
       }
     where
       as-planned : openJudged (slotKey keyLength ring s) bytes lens input output scratch ≡ 0 → blockWork lens (length input - 16) ≡ plan
@@ -132,7 +138,7 @@ ring-from-c : (keyLength : ℕ) (ring header input output scratch : List ℕ) (a
     → ReportedRing (slotCount keyLength (length ring)) (openRingFromC keyLength ring header ad nonce input output scratch) (plannedFromC ad nonce (length input - 16))
 unfolding plannedFromC
 ring-from-c keyLength ring header input output scratch ad nonce =
-    ring-reports keyLength ring header (aeadLens ad nonce) input output scratch (row 10 (eqb nonce 0) ∷ []) _ refl (ring-comes-from-c keyLength ring header input output scratch ad nonce)
+    ring-reports keyLength ring header (aeadLens ad nonce) input output scratch (row 10 (eqb nonce 0) ∷ []) _ refl (ring-case-from-c keyLength ring header input output scratch ad nonce)
     (answers-or-first-refusal .openingRingFromC keyLength ring header input output scratch ad nonce)
     (λ z. simp (not-due (eqb nonce 0) 9 0 (first-none (ringRows keyLength (length ring)) (row 10 (eqb nonce 0) ∷ []) refl z .1) .0))
 
@@ -331,17 +337,15 @@ unfolding fits keptFits
 any-fits wanted s kept begun = simp (ne-eqb (streamPlace wanted s % 16) 0 begun) refl
 
 -- what a call answers goes by its number
-by-number : (n m w : ℕ) (next s : Stream) (last o : List ℕ) → settle n (doneStep m w next last) s o .outcome ≡ cond (eqb n 0) (success m w) (refusal n)
-by-number n m w next s last o = go (eqb n 0)
-  where
-    go : (b : Bool) → cond b (doneStep m w next last) (refusedStep n s o) .outcome ≡ cond b (success m w) (refusal n)
-    go true = refl
-    go false = refl
+SameAnswer : StepResult → StepResult → Type 0
+SameAnswer a b = a .outcome ≡ b .outcome
 
 same-answer : (n n′ m w : ℕ) (next next′ s s′ : Stream) (last last′ o : List ℕ) → n ≡ n′
-    → settle n (doneStep m w next last) s o .outcome ≡ settle n′ (doneStep m w next′ last′) s′ o .outcome
+    → settle n (doneStep m w next last) (λ i. refusedStep i s o) .outcome ≡ settle n′ (doneStep m w next′ last′) (λ i. refusedStep i s′ o) .outcome
+unfolding SameAnswer
 same-answer n n′ m w next next′ s s′ last last′ o e =
-    by-number n m w next s last o ∙ ap (λ (k : ℕ). cond (eqb k 0) (success m w) (refusal k)) e ∙ sym (by-number n′ m w next′ s′ last′ o)
+    subst (λ (k : ℕ). settle n (doneStep m w next last) (λ i. refusedStep i s o) .outcome ≡ settle k (doneStep m w next′ last′) (λ i. refusedStep i s′ o) .outcome) e
+    (alike SameAnswer (eqb n 0) refl refl)
 
 module _ (s : Stream) (kept shared : List ℕ) where
   -- the state with another kept block
@@ -353,7 +357,7 @@ module _ (s : Stream) (kept shared : List ℕ) where
   same-number wanted rest begun = ap (λ (f : Bool). first (row 9 (not f) ∷ rest)) (any-fits wanted s kept begun)
 
   unjudged : (c : Call) → (streamPlace (wants c) s % 16 ≡ 0 → ⊥) → call changed shared c .outcome ≡ call s shared c .outcome
-  unfolding addStep turnStep writeStep closeStep feedStep finishStep addedWork tagOfState tagOfStateWork
+  unfolding addStep turnStep writeStep closeStep feedStep finishStep addedWork tagOfState tagOfStateWork SameAnswer
   unjudged (add piece) begun =
       let n = length piece in
       same-answer _ _ 0 (addedWork s n) (added changed piece) (added s piece) changed s [] [] [] (same-number 1 (row 4 (ltb limit (s .total + n)) ∷ []) begun)
@@ -372,16 +376,10 @@ module _ (s : Stream) (kept shared : List ℕ) where
       let q = streamedAt s (s .total) piece in
       same-answer _ _ n (pieceWork (s .total) n + addedWork s n) (added (deciphered changed n) p) (added (deciphered s n) q) changed s (put shared (s .total) p) (put shared (s .total) q) shared
       (same-number 3 (row 4 (ltb limit (s .total + n)) ∷ row 6 (ltb (length shared) (s .total + n)) ∷ []) begun)
-  unjudged finish begun = go (first (finishTable changed shared)) (first (finishTable s shared))
-      (same-number 3 (row 6 (ltb (length shared) (s .total)) ∷ row 8 (not (same (tagOfState s) (s .v))) ∷ []) begun) (eqb (first (finishTable changed shared)) 8) (eqb (first (finishTable s shared)) 8) refl refl
-    where
-      go : (n n′ : ℕ) → n ≡ n′ → (b b′ : Bool) → eqb n 8 ≡ b → eqb n′ 8 ≡ b′
-          → cond b (forgedStep changed shared) (settle n (doneStep (s .total) (tagOfStateWork changed) ended shared) changed shared) .outcome
-          ≡ cond b′ (forgedStep s shared) (settle n′ (doneStep (s .total) (tagOfStateWork s) ended shared) s shared) .outcome
-      go n n′ e true true p q = refl
-      go n n′ e true false p q = absurd (true≢false (sym p ∙ ap (λ (k : ℕ). eqb k 8) e ∙ q))
-      go n n′ e false true p q = absurd (true≢false (sym q ∙ ap (λ (k : ℕ). eqb k 8) (sym e) ∙ p))
-      go n n′ e false false p q = same-answer n n′ (s .total) (tagOfStateWork s) ended ended changed s shared shared shared e
+  unjudged finish begun =
+      subst (λ (k : ℕ). finishStep changed shared .outcome ≡ settle k (doneStep (s .total) (tagOfStateWork s) ended shared) (forgedOr (forgedStep s shared) (λ i. refusedStep i s shared)) .outcome)
+      (same-number 3 (row 6 (ltb (length shared) (s .total)) ∷ row 8 (not (same (tagOfState s) (s .v))) ∷ []) begun)
+      (alike SameAnswer (eqb (first (finishTable changed shared)) 0) refl (alike SameAnswer (eqb (first (finishTable changed shared)) 8) refl refl))
 
 pub reports-and-adds-up : BlockWork
 reports-and-adds-up =
@@ -390,7 +388,7 @@ reports-and-adds-up =
       opens = opens;
       sealsFromC = seals-from-c;
       opensRing = λ keyLength ring bytes lens input output scratch.
-          ring-reports keyLength ring bytes lens input output scratch [] _ refl (ring-comes keyLength ring bytes lens input output scratch)
+          ring-reports keyLength ring bytes lens input output scratch [] _ refl (open-ring-case keyLength ring bytes lens input output scratch)
           (answers-or-first-refusal .openingRing keyLength ring bytes lens input output scratch) (λ z. refl);
       opensFromC = opens-from-c;
       opensRingFromC = ring-from-c;

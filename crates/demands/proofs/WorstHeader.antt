@@ -1,4 +1,5 @@
--- Slip 6's promises hold: 12 is due under its conditions alone, both checks give 127, and the calls report the blocks that are given.
+-- Slip 6's promises hold: 12 is due under its conditions alone,
+-- both checks give 127, and the calls report the blocks that are given.
 -- Assumes nothing.
 use mathlib.Core.Path.{_≡_, refl, ap, sym, subst, _∙_}
 use mathlib.Core.Bool.{true}
@@ -14,10 +15,10 @@ use Rattle.worst_header.proofs.Laws.{Planned, plan-by, no-plan, planned-row, fo
 use Rattle.whole.specs.Calls.{isKeyLength, sealCall, openCall}
 use Rattle.whole.specs.Work.{workBehind}
 use Rattle.demands.specs.WorstHeader.{AsReported, TwelveDue, WorstRecord}
-use Rattle.demands.specs.Whole.{Admits}
+use Rattle.demands.specs.Second.{Admits}
 use Rattle.demands.specs.Work.{Reported}
 use Rattle.demands.proofs.First.{answers-or-first-refusal}
-use Rattle.demands.proofs.Whole.{seals-and-reopens}
+use Rattle.demands.proofs.Second.{seals-and-reopens}
 use Rattle.demands.proofs.Work.{opened-work}
 
 -- what was given, where the number is 0

@@ -1,4 +1,5 @@
--- The first demand: every call gives the complete result, or the one refusal that is first due, with state and buffers as document 01's table says, and the work that slip 5 of document 02 says.
+-- The first demand: every call gives the complete result, or the one refusal that is first due,
+-- with state and buffers as document 01's table says, and the work that slip 5 of document 02 says.
 -- Assumes nothing.
 use mathlib.Core.Path.{_≡_}
 use mathlib.Core.Bool.{Bool, true, false, not, cond, _&&_}
@@ -21,12 +22,13 @@ use Rattle.whole.specs.Work.{blockWork}
 use Rattle.head.specs.declared.Head.{Head}
 use Rattle.head.specs.Head.{zeroHead, headOf, extended, MakeResult, madeHead, makeHead, extendHead}
 use Rattle.stream.specs.declared.Stream.{Stream}
-use Rattle.stream.specs.State.{ended, start, added, tagOfState, tagOfStateWork, streamedAt}
-use Rattle.stream.specs.Steps.{StepResult, doneStep, refusedStep, tagRows, beginSealer, beginOpener, beginSealerFrom, beginOpenerFrom, addRows, addStep, turnRows, turned, turnStep, writeRows, wrote, writeStep, closeRows, closeStep, feedRows, deciphered, feedStep, finishTable, forgedStep, finishStep}
+use Rattle.stream.specs.State.{ended, start, added, tagOfState, tagOfStateWork, streamedAt, turned}
+use Rattle.stream.specs.Steps.{StepResult, doneStep, refusedStep, tagRows, beginSealer, beginOpener, beginSealerFrom, beginOpenerFrom, addRows, addStep, turnRows, turnStep, writeRows, wrote, writeStep, closeRows, closeStep, feedRows, deciphered, feedStep, finishTable, forgedStep, finishStep}
 use Rattle.kinphlor.specs.Interface.{aeadLens, packed, sealFromC, openFromC, packedRing, openRingFromC, GivesWorstFromC}
 use Rattle.demands.specs.Model.{chained}
 
--- document 01's order of refusals, with document 02's 11 straight after 1; 12 is alone in its table, so its place says nothing
+-- document 01's order of refusals, with document 02's 11 straight after 1;
+-- 12 is alone in its table, so its place says nothing
 abbrev pub order : List ℕ
 order = 9 ∷ 1 ∷ 11 ∷ 10 ∷ 2 ∷ 3 ∷ 5 ∷ 4 ∷ 6 ∷ 7 ∷ 8 ∷ 12 ∷ []
 
@@ -48,30 +50,39 @@ abbrev Leaves : CallResult → Outcome → List ℕ → List ℕ → Type 0
 Leaves result outcome output scratch = (result .outcome ≡ outcome) × (result .output ≡ output) × (result .scratch ≡ scratch)
 
 module _ (key bytes lens input output scratch : List ℕ) where
+  -- sealing and opening with these six, and their tables
+  abbrev sealing : CallResult
+  sealing = sealCall key bytes lens input output scratch
+
+  abbrev sealingTable : List Row
+  sealingTable = sealTable key bytes lens input output scratch
+
+  abbrev opening : CallResult
+  opening = openCall key bytes lens input output scratch
+
+  abbrev openingTable : List Row
+  openingTable = openTable key bytes lens input output scratch
+
   -- the scratch that n bytes need, zero
   abbrev pub cleared : ℕ → List ℕ
   cleared n = put scratch 0 (replicate (scratchNeed n) 0)
 
   pub record FirstSeal : Type 0 where
-    pub ordered : keeps order (sealTable key bytes lens input output scratch) ≡ true
-    pub first : FirstDue (sealTable key bytes lens input output scratch) (sealCall key bytes lens input output scratch .outcome .number)
-    pub done : sealCall key bytes lens input output scratch .outcome .number ≡ 0
-        → Leaves (sealCall key bytes lens input output scratch) (success (length input + 16) (blockWork lens (length input)))
+    pub ordered : keeps order sealingTable ≡ true
+    pub first : FirstDue sealingTable (sealing .outcome .number)
+    pub done : sealing .outcome .number ≡ 0
+        → Leaves sealing (success (length input + 16) (blockWork lens (length input)))
         (put output 0 (sealed key (strings bytes lens) input)) (cleared (length input))
-    pub refused : (n : ℕ) → sealCall key bytes lens input output scratch .outcome .number ≡ n → (n ≡ 0 → ⊥)
-        → Leaves (sealCall key bytes lens input output scratch) (refusal n) output scratch
+    pub refused : (n : ℕ) → sealing .outcome .number ≡ n → (n ≡ 0 → ⊥) → Leaves sealing (refusal n) output scratch
 
   pub record FirstOpen : Type 0 where
-    pub ordered : keeps order (openTable key bytes lens input output scratch) ≡ true
-    pub first : FirstDue (openTable key bytes lens input output scratch) (openCall key bytes lens input output scratch .outcome .number)
-    pub done : openCall key bytes lens input output scratch .outcome .number ≡ 0
-        → Leaves (openCall key bytes lens input output scratch) (success (length input - 16) (blockWork lens (length input - 16)))
-        (put output 0 (opened key input)) (cleared (length input - 16))
-    pub forged : openCall key bytes lens input output scratch .outcome .number ≡ 8
-        → Leaves (openCall key bytes lens input output scratch) (forged (blockWork lens (length input - 16)))
-        (put output 0 (replicate (length input - 16) 0)) (cleared (length input - 16))
-    pub refused : (n : ℕ) → openCall key bytes lens input output scratch .outcome .number ≡ n → (n ≡ 0 → ⊥) → (n ≡ 8 → ⊥)
-        → Leaves (openCall key bytes lens input output scratch) (refusal n) output scratch
+    pub ordered : keeps order openingTable ≡ true
+    pub first : FirstDue openingTable (opening .outcome .number)
+    pub done : opening .outcome .number ≡ 0
+        → Leaves opening (success (length input - 16) (blockWork lens (length input - 16))) (put output 0 (opened key input)) (cleared (length input - 16))
+    pub forged : opening .outcome .number ≡ 8
+        → Leaves opening (forged (blockWork lens (length input - 16))) (put output 0 (replicate (length input - 16) 0)) (cleared (length input - 16))
+    pub refused : (n : ℕ) → opening .outcome .number ≡ n → (n ≡ 0 → ⊥) → (n ≡ 8 → ⊥) → Leaves opening (refusal n) output scratch
 
 -- ---- the C interface
 
@@ -95,7 +106,8 @@ noSlot test zero = true
 noSlot test (suc n) = not (test n) && noSlot test n
 
 module _ (keyLength : ℕ) (ring bytes lens input output scratch : List ℕ) where
-  -- the ring's rows: 1, 11 and those that the C interface puts behind them; then those of one key from 2 on, with 8 where no slot's key opens
+  -- the ring's rows: 1, 11 and those that the C interface puts behind them;
+  -- then those of one key from 2 on, with 8 where no slot's key opens
   abbrev pub ringTable : List Row → List Row
   ringTable behind =
       ringRows keyLength (length ring) ++ behind ++ (row 2 (ltb 126 (length lens)) ∷ row 3 (not (eqb (total lens) (length bytes))) ∷ [])
@@ -110,7 +122,8 @@ module _ (keyLength : ℕ) (ring bytes lens input output scratch : List ℕ) whe
   abbrev triedKeys : ℕ → ℕ
   triedKeys n = n * blockWork lens (length input - 16)
 
-  -- an opening under the ring by its table: the buffers are as after an opening under one key, the slot's; a refusal gives slot 0; the keys up to that slot were tried, or all of them
+  -- an opening under the ring by its table: the buffers are as after an opening under one key, the slot's;
+  -- a refusal gives slot 0; the keys up to that slot were tried, or all of them
   pub record FirstRing (table : List Row) (result : RingResult) : Type 0 where
     pub ordered : keeps order table ≡ true
     pub first : FirstDue table (result .call .outcome .number)
@@ -133,7 +146,8 @@ pub record FirstWorst (h k least : ℕ) (outcome : Outcome) (places : List ℕ) 
 
 -- ---- the number that C gets
 
--- its parts as the header reads them: the answer from bit 32 on, the slot in the four bits below, the length in the 28 below these
+-- its parts as the header reads them: the answer from bit 32 on,
+-- the slot in the four bits below, the length in the 28 below these
 pub record Parts (given number slot count : ℕ) : Type 0 where
   pub high : given / 4294967296 ≡ number
   pub middle : given / 268435456 % 16 ≡ slot
@@ -141,7 +155,8 @@ pub record Parts (given number slot count : ℕ) : Type 0 where
 
 -- ---- a head
 
--- the rows of a head and the strings that follow its own: of the head 9 judges the key width and the count, and nothing else
+-- the rows of a head and the strings that follow its own:
+-- of the head 9 judges the key width and the count, and nothing else
 abbrev pub restTable : Head → List ℕ → ℕ → List Row
 restTable h lens restLength =
     row 9 (not (isWidth (h .width) && not (ltb 126 (h .count)))) ∷ row 2 (ltb 126 (h .count + length lens)) ∷ row 3 (not (eqb (total lens) restLength)) ∷ []
@@ -170,7 +185,8 @@ pub record FirstFinish (s : Stream) (output : List ℕ) : Type 0 where
   pub forged : finishStep s output .outcome .number ≡ 8 → finishStep s output ≡ forgedStep s output
   pub refused : (n : ℕ) → finishStep s output .outcome .number ≡ n → (n ≡ 0 → ⊥) → (n ≡ 8 → ⊥) → finishStep s output ≡ refusedStep n s output
 
--- The first demand, on all input bytes, lengths, heads and stream states; number, length and work tell an answer and its work.
+-- The first demand, on all input bytes, lengths, heads and stream states;
+-- number, length and work tell an answer and its work.
 pub record First : Type 0 where
   pub sealing : (key bytes lens input output scratch : List ℕ) → FirstSeal key bytes lens input output scratch
   pub opening : (key bytes lens input output scratch : List ℕ) → FirstOpen key bytes lens input output scratch

@@ -9,7 +9,7 @@ use Rattle.answers.specs.Answer.{success}
 use Rattle.head.specs.Head.{madeHead, makeHead, extendHead}
 use Rattle.stream.specs.Steps.{StepResult}
 use Rattle.demands.specs.Run.{Begin, undivided, divided, begunFrom, firstHead, restBytes, begun}
-use Rattle.demands.specs.Whole.{Admits}
+use Rattle.demands.specs.Second.{Admits}
 
 -- two results are the same but for their work
 pub record SameButWork (a b : StepResult) : Type 0 where
@@ -22,7 +22,8 @@ pub record SameButWork (a b : StepResult) : Type 0 where
 pub record Split (key bytes lens : List ℕ) (n : ℕ) : Type 0 where
   -- the head of the first is made, and reports its work
   pub made : firstHead key bytes lens n .outcome ≡ success 0 (2 + blocksOfAll (take n lens))
-  -- a begin from it with the others gives answer and state of the undivided list's begin: a sealer's, and an opener's with any tag, one of a wrong length too
+  -- a begin from it with the others gives answer and state of the undivided list's begin:
+  -- a sealer's, and an opener's with any tag, one of a wrong length too
   pub begins : (begin : Begin) → SameButWork (begun key bytes lens (divided n) begin) (begun key bytes lens undivided begin)
   -- where it succeeds, its work and the head's are together that of the undivided list's begin
   pub works : (begin : Begin) → begun key bytes lens (divided n) begin .outcome .number ≡ 0
@@ -34,6 +35,7 @@ pub record Split (key bytes lens : List ℕ) (n : ℕ) : Type 0 where
 pub record Heads : Type 0 where
   -- any key and header list that document 01 admits, divided anywhere
   pub splits : (key bytes lens : List ℕ) → Admits key bytes lens → (n : ℕ) → Split key bytes lens n
-  -- and whatever follows a head so made, admitted or not, a begin answers as with the joined list: 126 bounds both together
+  -- and whatever follows a head so made, admitted or not,
+  -- a begin answers as with the joined list: 126 bounds both together
   pub joins : (key bytes lens more moreLens : List ℕ) → Admits key bytes lens → (begin : Begin)
       → SameButWork (begunFrom (makeHead key bytes lens .head) more moreLens begin) (begun key (bytes ++ more) (lens ++ moreLens) undivided begin)

@@ -1,5 +1,6 @@
 pub mod Cases
 pub mod First
+pub mod Second
 pub mod Whole
 pub mod Ring
 pub mod Run

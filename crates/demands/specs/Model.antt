@@ -1,4 +1,5 @@
--- The reference model, "the plain book" of document 01: what every list of piecewise calls gives, told from the arguments of begin and of the calls alone; with the work of slip 5 of document 02, from lengths alone.
+-- The reference model, "the plain book" of document 01: what every list of piecewise calls gives,
+-- told from the arguments of begin and of the calls alone; with the work of slip 5 of document 02, from lengths alone.
 -- Assumes nothing.
 use mathlib.Core.Bool.{Bool, false, not, cond, _||_}
 use mathlib.Core.List.{List, [], _∷_, _++_}
@@ -33,7 +34,8 @@ wants close = 2
 wants (feed piece) = 3
 wants finish = 3
 
--- how many blocks of n bytes the CMAC's chain has taken while their end is not known: the hold of document 01 stands behind them
+-- how many blocks of n bytes the CMAC's chain has taken while their end is not known:
+-- the hold of document 01 stands behind them
 abbrev pub chained : ℕ → ℕ
 chained n = n / 16 - 1
 
@@ -59,7 +61,8 @@ module _ (key bytes lens : List ℕ) where
 
   -- which begin, and the output shared by feed and finish as it was at first
   module _ (begin : Begin) (shared : List ℕ) where
-    -- the shared output: the opener's starts with A xor the key stream of T in stage 3; after finish, with the plaintext for 0, and with zeros as long as A for 8
+    -- the shared output: the opener's starts with A xor the key stream of T in stage 3;
+    -- after finish, with the plaintext for 0, and with zeros as long as A for 8
     abbrev shownBy : Begin → ModelState → List ℕ
     shownBy sealer b = shared
     shownBy (opener T) b =
@@ -102,7 +105,8 @@ module _ (key bytes lens : List ℕ) where
     countAfter b (feed piece) = length piece
     countAfter b finish = length (b .A)
 
-    -- the work of success, and of 8: the blocks that join the chain, those that the tag is made with, and those of the key stream that are begun
+    -- the work of success, and of 8: the blocks that join the chain,
+    -- those that the tag is made with, and those of the key stream that are begun
     abbrev pub workAfter : ModelState → Call → ℕ
     workAfter b (add piece) = chained (length (b .A ++ piece)) - chained (length (b .A))
     workAfter b (turn output) = blocksOf (length (b .A)) - chained (length (b .A))
@@ -121,7 +125,8 @@ module _ (key bytes lens : List ℕ) where
     outputBefore b (feed piece) = shown b
     outputBefore b finish = shown b
 
-    -- and after success or 8: turn gives the tag of sealing A, and the writes' bytes, joined, are W xor the key stream of that tag
+    -- and after success or 8: turn gives the tag of sealing A,
+    -- and the writes' bytes, joined, are W xor the key stream of that tag
     abbrev pub outputAfter : ModelState → Call → List ℕ
     outputAfter b (add piece) = []
     outputAfter b (turn output) = put output 0 (sealTag (b .A))

@@ -12,7 +12,8 @@ use Rattle.whole.specs.Calls.{isKeyLength, limit, scratchNeed, openCall}
 use Rattle.whole.specs.Ring.{slotKey, triedWork, RingResult, openSlot, opensAt, workAt, openSlotWith, openRing}
 use Rattle.whole.specs.Work.{blockWork}
 use Rattle.kinphlor.specs.Interface.{aeadLens, openFromC, openRingFromC}
-use Rattle.demands.specs.Whole.{Gives, Accepts, SealsTo}
+use Rattle.demands.specs.Second.{Gives}
+use Rattle.demands.specs.Whole.{Accepts, SealsTo}
 
 -- a ring of one to four whole keys
 pub record IsRing (keyLength slots : ℕ) (ring : List ℕ) : Type 0 where
@@ -28,7 +29,8 @@ module _ (keyLength slots : ℕ) (ring bytes lens input output scratch : List �
   Opens i = (i < slots) × (openSlot keyLength ring bytes lens input output scratch i .outcome .number ≡ 0)
 
   pub record BySlot (result : RingResult) : Type 0 where
-    -- number, length, output and scratch are those of the single call with the given slot's key, and the work is that of the single calls with every key tried
+    -- number, length, output and scratch are those of the single call with the given slot's key,
+    -- and the work is that of the single calls with every key tried
     pub within : result .slot < slots
     pub single : result .call
         ≡ openSlotWith keyLength ring bytes lens input output scratch (result .slot)
@@ -45,7 +47,8 @@ module _ (keyLength slots : ℕ) (ring bytes lens y : List ℕ) where
   SealsUnder i P = (i < slots) × SealsTo (slotKey keyLength ring i) bytes lens y P
 
   pub record ThirdRing (output : List ℕ) (result : RingResult) : Type 0 where
-    -- opening accepts y with P, and gives slot i, exactly when P seals to y under slot i's key and nothing does under an earlier one
+    -- opening accepts y with P, and gives slot i,
+    -- exactly when P seals to y under slot i's key and nothing does under an earlier one
     pub accepts : (P : List ℕ) → Accepts (result .call) output P → SealsUnder (result .slot) P × ((j : ℕ) (Q : List ℕ) → SealsUnder j Q → result .slot ≤ j)
     pub accepted : (i : ℕ) (P : List ℕ) → SealsUnder i P → ((j : ℕ) (Q : List ℕ) → SealsUnder j Q → i ≤ j)
         → Gives (result .call) ((i + 1) * blockWork lens (length P)) output P × (result .slot ≡ i)
@@ -53,7 +56,8 @@ module _ (keyLength slots : ℕ) (ring bytes lens y : List ℕ) where
     pub opens : (i : ℕ) (P : List ℕ) → SealsUnder i P → result .call .outcome .number ≡ 0
     -- where nothing seals to y under any key, opening refuses
     pub refuses : ((i : ℕ) (P : List ℕ) → SealsUnder i P → ⊥) → result .call .outcome .number ≡ 0 → ⊥
-    -- and if y has 16 to 1,048,592 bytes, it refuses with 8, and every output byte that a plaintext would have taken is zero
+    -- and if y has 16 to 1,048,592 bytes, it refuses with 8,
+    -- and every output byte that a plaintext would have taken is zero
     pub wipes : ((i : ℕ) (P : List ℕ) → SealsUnder i P → ⊥) → 16 ≤ length y → length y ≤ limit + 16
         → (result .call .outcome ≡ forged (slots * blockWork lens (length y - 16))) × (result .call .output ≡ put output 0 (replicate (length y - 16) 0))
 

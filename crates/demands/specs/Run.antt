@@ -15,12 +15,14 @@ pub data Begin : Type 0 where
   sealer : Begin
   opener : List ℕ → Begin
 
--- and from what: the key and the whole header list; or a head, made from the key and the list's first n strings, and the others
+-- and from what: the key and the whole header list;
+-- or a head, made from the key and the list's first n strings, and the others
 pub data Start : Type 0 where
   undivided : Start
   divided : ℕ → Start
 
--- a call with its arguments but for the state; turn and write bring the output that is lent to them, feed and finish share one
+-- a call with its arguments but for the state;
+-- turn and write bring the output that is lent to them, feed and finish share one
 pub data Call : Type 0 where
   add : List ℕ → Call
   turn : List ℕ → Call
@@ -91,7 +93,8 @@ pub record Run : Type 0 where
   pub state : Stream
   pub shared : List ℕ
 
--- each call gets the state that the last one returned, and feed and finish the output as the last one left it; `gives` says what a call gives
+-- each call gets the state that the last one returned,
+-- and feed and finish the output as the last one left it; `gives` says what a call gives
 abbrev pub runBy : (Stream → List ℕ → Call → StepResult) → Stream → List ℕ → List Call → Run
 runBy gives s shared [] = record { entries = []; state = s; shared = shared }
 runBy gives s shared (c ∷ cs) =

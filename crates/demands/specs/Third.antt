@@ -1,4 +1,5 @@
--- The third demand as one statement: whole opening accepts exactly what sealing gives, and every list of piecewise calls behaves as the reference model.
+-- The third demand as one statement: whole opening accepts exactly what sealing gives,
+-- and every list of piecewise calls behaves as the reference model.
 -- Assumes nothing.
 use mathlib.Core.Path.{_≡_}
 use mathlib.Core.Bool.{Bool, true, false, cond}
@@ -16,9 +17,11 @@ use Rattle.stream.specs.State.{ended}
 use Rattle.stream.specs.Steps.{StepResult, finishStep}
 use Rattle.demands.specs.Model.{ModelState, fresh, ModelRun, sealTag, shown, modelRun}
 use Rattle.demands.specs.Run.{Begin, sealer, opener, Start, undivided, divided, Call, add, turn, write, close, feed, finish, begun, Entry, Run, run}
-use Rattle.demands.specs.Whole.{Admits, ThirdWhole}
+use Rattle.demands.specs.Second.{Admits}
+use Rattle.demands.specs.Whole.{ThirdWhole}
 
--- the same bytes in one piece: one add of A in stage 1; one add of A, turn and one write of W in stage 2; one feed of A in stage 3
+-- the same bytes in one piece: one add of A in stage 1;
+-- one add of A, turn and one write of W in stage 2; one feed of A in stage 3
 abbrev pub onePiece : ModelState → List Call
 onePiece b =
     cond (eqb (b .stage) 1) (add (b .A) ∷ [])
@@ -54,7 +57,8 @@ beginWork lens undivided = 2 + blocksOfAll lens
 beginWork lens (divided n) = blocksOfAll (drop n lens)
 
 module _ (key bytes lens : List ℕ) where
-  -- any list of calls, refused ones included, after either begin, from the whole list or from a head, with any shared output
+  -- any list of calls, refused ones included, after either begin,
+  -- from the whole list or from a head, with any shared output
   module _ (begin : Begin) (shared : List ℕ) (calls : List Call) where
     -- what the model says: it sees no head
     abbrev pub expected : ModelRun
@@ -71,7 +75,8 @@ module _ (key bytes lens : List ℕ) where
         -- all numbers, lengths, works and output bytes are the model's
         pub entries : ran .entries ≡ expected .entries
         pub output : ran .shared ≡ shown key bytes lens begin shared (expected .model)
-        -- the state is that of the same bytes given in one piece, after the begin from the whole list; in stage 0 it is all zero
+        -- the state is that of the same bytes given in one piece,
+        -- after the begin from the whole list; in stage 0 it is all zero
         pub state : ran .state
             ≡ cond (eqb (expected .model .stage) 0) ended (run (begun key bytes lens undivided begin .state) shared (onePiece (expected .model)) .state)
 
@@ -89,7 +94,8 @@ module _ (key bytes lens : List ℕ) where
         pub joined : sealerGave
             ≡ cond (eqb (sealerModel .stage) 1) []
             (sealTag key bytes lens (sealerModel .A) ++ streamed key (sealTag key bytes lens (sealerModel .A)) (sealerModel .W))
-        -- what turn and the writes gave is the first bytes of sealing all that was added, if the writes brought its first bytes again
+        -- what turn and the writes gave is the first bytes of sealing all that was added,
+        -- if the writes brought its first bytes again
         pub firstBytes : take (length (sealerModel .W)) (sealerModel .A) ≡ sealerModel .W
             → sealerGave ≡ take (cond (eqb (sealerModel .stage) 1) 0 (16 + length (sealerModel .W))) (sealed key (strings bytes lens) (sealerModel .A))
 
@@ -97,7 +103,8 @@ module _ (key bytes lens : List ℕ) where
   abbrev pub fed : List ℕ → List ℕ → List Call → List ℕ
   fed T shared calls = expected (opener T) shared calls .model .A
 
-  -- an opener's list of calls without a finish, then the first finish; and whole opening of the tag and all that was fed, with buffers large enough
+  -- an opener's list of calls without a finish, then the first finish;
+  -- and whole opening of the tag and all that was fed, with buffers large enough
   module _ (T shared : List ℕ) (calls : List Call) (output scratch : List ℕ) (start : Start) where
     abbrev pub finished : StepResult
     finished = finishStep (ran (opener T) shared calls start .state) (ran (opener T) shared calls start .shared)
@@ -109,7 +116,8 @@ module _ (key bytes lens : List ℕ) where
       -- and its plaintext or zeros, and nothing else
       pub plaintext : finished .output ≡ put shared 0 (take (length (fed T shared calls)) (openCall key bytes lens (T ++ fed T shared calls) output scratch .output))
 
--- The third demand: any key and header list that document 01 admits; lists of calls start from all of it, or from a head of any of its first strings.
+-- The third demand: any key and header list that document 01 admits;
+-- lists of calls start from all of it, or from a head of any of its first strings.
 pub record Third (key bytes lens : List ℕ) : Type 0 where
   pub whole : (y output scratch : List ℕ) → length y - 16 ≤ length output → scratchNeed (length y - 16) ≤ length scratch → ThirdWhole key bytes lens y output scratch
   pub sealers : (start : Start) (shared : List ℕ) (calls : List Call) → AsModel key bytes lens sealer shared calls start

@@ -1,4 +1,5 @@
--- Slip 5 of document 02: the work in blocks that every answer carries, and the key stream block that a state keeps. What each call reports is in First.antt and Third.antt.
+-- Slip 5 of document 02: the work in blocks that every answer carries, and the key stream block that a state keeps.
+-- What each call reports is in First.antt and Third.antt.
 -- Assumes nothing.
 use mathlib.Core.Path.{_≡_}
 use mathlib.Core.Bool.{false, cond}
@@ -24,7 +25,7 @@ use Rattle.kinphlor.specs.Interface.{sealFromC, openFromC, openRingFromC, plann
 use Rattle.demands.specs.Model.{ModelState, wants, chained, sealTag}
 use Rattle.demands.specs.Run.{Begin, sealer, opener, Start, undivided, divided, Call, firstHead, begun, call, lent, Entry}
 use Rattle.demands.specs.Third.{expected, ran}
-use Rattle.demands.specs.Whole.{Admits}
+use Rattle.demands.specs.Second.{Admits}
 
 -- ---- planning
 
@@ -51,7 +52,8 @@ module _ (key bytes lens : List ℕ) where
   headWork undivided = 0
   headWork (divided n) = firstHead key bytes lens n .outcome .work
 
-  -- from begin to stage 0 the answers of a list of calls, refused ones included, add up to the whole call's sum, less the head's blocks
+  -- from begin to stage 0 the answers of a list of calls, refused ones included,
+  -- add up to the whole call's sum, less the head's blocks
   abbrev pub AddsUp : Begin → List ℕ → List Call → Start → Type 0
   AddsUp begin shared calls start =
       ran key bytes lens begin shared calls start .state .stage ≡ 0
@@ -60,7 +62,8 @@ module _ (key bytes lens : List ℕ) where
 
   -- ---- the kept block
 
-  -- the block of the tag's key stream that the bytes used so far begin and do not use up, by what the model keeps; zero where there is none
+  -- the block of the tag's key stream that the bytes used so far begin and do not use up,
+  -- by what the model keeps; zero where there is none
   abbrev pub ownBlock : Begin → ModelState → List ℕ
   ownBlock sealer b = cond (eqb (b .stage) 2) (begunBlock (aes (ctrKey key)) (sealTag key bytes lens (b .A)) (length (b .W))) zeros
   ownBlock (opener T) b = cond (eqb (b .stage) 3) (begunBlock (aes (ctrKey key)) T (length (b .A))) zeros
@@ -79,9 +82,11 @@ pub record BlockWork : Type 0 where
       → Reported (openFromC key header ad nonce input output scratch) (plannedFromC ad nonce (length input - 16))
   pub opensRingFromC : (keyLength : ℕ) (ring header input output scratch : List ℕ) (ad nonce : ℕ)
       → ReportedRing (slotCount keyLength (length ring)) (openRingFromC keyLength ring header ad nonce input output scratch) (plannedFromC ad nonce (length input - 16))
-  -- a tag from any state takes those blocks of total bytes that are not in its chain; that D has 16 bytes and a tail 31 is their types'
+  -- a tag from any state takes those blocks of total bytes that are not in its chain;
+  -- that D has 16 bytes and a tail 31 is their types'
   pub tags : (s : Stream) → length (s .d) ≡ 16 → length (s .tail) ≡ 31 → tagOfStateWork s ≡ blocksOf (s .total) - chained (s .total)
-  -- any key and header list that document 01 admits, from all of it or from a head of any of its first strings; sealers end by close
+  -- any key and header list that document 01 admits,
+  -- from all of it or from a head of any of its first strings; sealers end by close
   pub sealers : (key bytes lens : List ℕ) → Admits key bytes lens → (start : Start) (shared : List ℕ) (calls : List Call) → AddsUp key bytes lens sealer shared calls start
   -- and openers by either verdict
   pub openers : (key bytes lens : List ℕ) → Admits key bytes lens → (start : Start) (T shared : List ℕ) (calls : List Call) → length T ≡ 16
@@ -95,7 +100,8 @@ pub record BlockWork : Type 0 where
   pub used : (s : Stream) (place : ℕ) (piece : List ℕ) → length (s .kept) ≡ 16
       → let n = leftOver place in
       streamedAt s place piece ≡ xors (take n piece) (drop (place % 16) (s .kept)) ++ xorStream (cipher (s .width) (s .«ctr_keys»)) (s .v) (place + n) (drop n piece)
-  -- it stays until it is used up, and then the block that is kept is the key stream's own; that a kept block has 16 bytes is its type's
+  -- it stays until it is used up, and then the block that is kept is the key stream's own;
+  -- that a kept block has 16 bytes is its type's
   pub stays : (s : Stream) (place n : ℕ) → length (s .kept) ≡ 16
       → keptAt s place n ≡ cond (ltb n (leftOver place)) (s .kept) (begunBlock (cipher (s .width) (s .«ctr_keys»)) (s .v) (place + n))
   -- where one is begun a given state may keep any block: what the calls answer does not depend on it

@@ -1,4 +1,5 @@
--- Slip 6 of document 02: what a gym may rely on of the worst header list, whichever list was given. That list and blocks are zero after 12 is in First.antt.
+-- Slip 6 of document 02: what a gym may rely on of the worst header list, whichever list was given.
+-- That list and blocks are zero after 12 is in First.antt.
 -- Assumes nothing.
 use mathlib.Core.Path.{_≡_}
 use mathlib.Core.Bool.{true}
@@ -11,7 +12,7 @@ use Rattle.worst_header.specs.WorstHeader.{planRows, Composes, IsWorst, GivesWo
 use Rattle.whole.specs.Calls.{isKeyLength, limit, scratchNeed, sealCall, openCall}
 use Rattle.whole.specs.Siv.{sealed}
 use Rattle.whole.specs.Work.{workBehind}
-use Rattle.demands.specs.Whole.{Admits, Gives}
+use Rattle.demands.specs.Second.{Admits, Gives}
 use Rattle.demands.specs.Work.{Reported}
 
 -- the blocks that were given are what sealing and opening report for a header
@@ -44,7 +45,8 @@ pub record WorstRecord : Type 0 where
   pub refusals : (h k least : ℕ) → TwelveDue h k least
   -- where 12 is not due, there is a worst list
   pub found : (h k least : ℕ) → first (planRows h k least) ≡ 0 → (places : List ℕ) × (blocks : ℕ) × IsWorst h k least places blocks
-  -- its blocks: one for each string, and one more for every 16 bytes beyond the first byte, or beyond one byte for each string where none may be empty
+  -- its blocks: one for each string, and one more for every 16 bytes beyond the first byte,
+  -- or beyond one byte for each string where none may be empty
   pub figure : (h k least : ℕ) (outcome : Outcome) (places : List ℕ) (blocks : ℕ) → GivesWorst h k least outcome places blocks → outcome .number ≡ 0
       → blocks ≡ k + (h - max 1 (k * least)) / 16
   -- the two checks of slip 6

@@ -47,7 +47,8 @@ unfoldable pub fromBits : (ℕ → ℕ) → ℕ → ℕ
 fromBits f zero = 0
 fromBits f (suc n) = fromBits f n + 2 ^ n * f n
 
--- 5.1.1, the affine step: bit i of the result is the sum of bits i, i + 4, i + 5, i + 6 and i + 7, modulo 8, of the byte and of bit i of 63
+-- 5.1.1, the affine step: bit i of the result is the sum of the byte's bits i, i + 4, i + 5, i + 6 and i + 7, modulo 8,
+-- and of bit i of 63
 unfoldable pub affine : ℕ → ℕ
 affine b = fromBits (λ i. (bit b i + bit b ((i + 4) % 8) + bit b ((i + 5) % 8) + bit b ((i + 6) % 8) + bit b ((i + 7) % 8) + bit 0x63 i) % 2) 8
 

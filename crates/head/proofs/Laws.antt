@@ -1,6 +1,6 @@
 -- Laws of heads: the one that the code puts together, a head with the next strings, and what the refusals leave.
 -- Assumes nothing.
-use mathlib.Core.Path.{_≡_, refl, ap, ap₂, sym, subst, _∙_}
+use mathlib.Core.Path.{_≡_, refl, ap, ap₂, sym, _∙_}
 use mathlib.Core.Bool.{true, not, and-eq-true-iff}
 use mathlib.Core.List.{List, [], _∷_, _++_}
 use Prim.Native.Nat.{ℕ, _+_, _-_, _/_, _≤_, _<_}
@@ -9,7 +9,7 @@ use native.Mathlib.Nat.{zero-add}
 use native.Mathlib.Omega.{arith}
 use lib.Dec.{eqb, ltb}
 use lib.ListN.{length, length-append}
-use borrow.Author.Tests.{eqb-true, eq-eqb, ne-eqb, lt-ltb, le-ltb, ltb-false, not-true, not-false}
+use borrow.Author.Tests.{eqb-true, lt-ltb, le-ltb, ltb-false, not-true, not-false}
 use Rattle.aes.specs.Aes.{isWidth}
 use Rattle.aes.specs.Cipher.{cipher}
 use Rattle.aes.specs.KeyExpansion.{roundKeys}
@@ -22,13 +22,13 @@ use Rattle.header.proofs.Laws.{length-strings}
 use Rattle.s2v.specs.S2v.{absorbStrings, absorbWork, headerResult}
 use Rattle.s2v.proofs.Laws.{absorb-append}
 use Rattle.answers.specs.declared.Answer.{Answer}
-use Rattle.answers.specs.Answer.{Outcome, first, outcomeOf, refusal}
-use Rattle.answers.proofs.Laws.{not-due}
+use Rattle.answers.specs.Answer.{first, settle, outcomeOf, refusal}
+use Rattle.answers.proofs.Laws.{IsRefused, not-due, by-refusal, by-complete}
 use Rattle.whole.specs.Siv.{macKey, ctrKey}
 use Rattle.whole.proofs.Lengths.{absorb-lengths, header-lengths}
 use Rattle.head.specs.declared.Head.{Head}
 use Rattle.head.specs.declared.Made.{Made}
-use Rattle.head.specs.Head.{zeroHead, headOf, headOfWork, extended, extendedWork, fitsHead, restRows, MakeResult, DidMake, madeHead, settleHead}
+use Rattle.head.specs.Head.{zeroHead, headOf, headOfWork, extended, extendedWork, fitsHead, restRows, MakeResult, DidMake, madeHead, refusedHead}
 
 -- a sum past a limit, told without the sum
 pub sum-passes : (most total n : ℕ) → total ≤ most → ltb (most - total) n ≡ ltb most (total + n)
@@ -64,24 +64,24 @@ module _ (bytes lens : List ℕ) where
       simp (m, c, l′, d′, length-strings bytes lens)
 
   module _ (h : Head) where
-    pub goes-on : {d : List ℕ} {k : Subkeys} → k ≡ subkeys (h .l) → d ≡ absorbStrings (cipher (h .width) (h .«mac_keys»)) k (h .d) (strings bytes lens)
+    pub extended-by : {d : List ℕ} {k : Subkeys} → k ≡ subkeys (h .l) → d ≡ absorbStrings (cipher (h .width) (h .«mac_keys»)) k (h .d) (strings bytes lens)
         → headWith (h .width) (h .«mac_keys») (h .«ctr_keys») (h .l) d (h .count + length lens) ≡ extended h (strings bytes lens)
     unfolding extended
-    goes-on {d} {k} f g =
+    extended-by {d} {k} f g =
         ap₂ (λ (x : List ℕ) (n : ℕ). headWith (h .width) (h .«mac_keys») (h .«ctr_keys») (h .l) x (h .count + n))
         (g ∙ ap (λ (j : Subkeys). absorbStrings (cipher (h .width) (h .«mac_keys»)) j (h .d) (strings bytes lens)) f)
         (sym (length-strings bytes lens))
 
 -- no strings more
-pub stays : (bytes lens : List ℕ) (h : Head) → length lens ≡ 0 → h ≡ extended h (strings bytes lens)
+pub extended-none : (bytes lens : List ℕ) (h : Head) → length lens ≡ 0 → h ≡ extended h (strings bytes lens)
 unfolding extended strings absorbStrings
-stays bytes [] h e = ap (headWith (h .width) (h .«mac_keys») (h .«ctr_keys») (h .l) (h .d)) (omega arith)
-stays bytes (n ∷ lens) h e = absurd (omega arith)
+extended-none bytes [] h e = ap (headWith (h .width) (h .«mac_keys») (h .«ctr_keys») (h .l) (h .d)) (omega arith)
+extended-none bytes (n ∷ lens) h e = absurd (omega arith)
 
-pub stays-work : (bytes lens : List ℕ) → length lens ≡ 0 → 0 ≡ extendedWork (strings bytes lens)
+pub extended-none-work : (bytes lens : List ℕ) → length lens ≡ 0 → 0 ≡ extendedWork (strings bytes lens)
 unfolding extendedWork strings absorbWork
-stays-work bytes [] e = refl
-stays-work bytes (n ∷ lens) e = absurd (omega arith)
+extended-none-work bytes [] e = refl
+extended-none-work bytes (n ∷ lens) e = absurd (omega arith)
 
 -- ---- the work by lengths
 
@@ -135,17 +135,10 @@ rest-admits h lens restLength e =
 
 -- ---- the calls' results
 
-module _ (n w : ℕ) (h : Head) where
-  pub settle-made : n ≡ 0 → settleHead n w h ≡ madeHead w h
-  settle-made e = simp (eq-eqb n 0 e)
+module _ (n w : ℕ) (h : Head) {made : Made} where
+  pub make-refused : (a : Answer) → IsRefused a → outcomeOf a 0 ≡ refusal n → DidMake (record { outcome = outcomeOf a 0; head = zeroHead }) made
+      → DidMake (settle n (madeHead w h) refusedHead) made
+  make-refused a k e d = by-refusal n (madeHead w h) (λ o. record { outcome = o; head = zeroHead }) (λ (r : MakeResult). DidMake r made) a k e d
 
-  pub settle-refused : (n ≡ 0 → ⊥) → settleHead n w h ≡ record { outcome = refusal n; head = zeroHead }
-  settle-refused z = simp (ne-eqb n 0 z)
-
-  pub make-refused : (a : Answer) {made : Made} → (outcomeOf a 0 .number ≡ 0 → ⊥) → outcomeOf a 0 ≡ refusal n → DidMake (record { outcome = outcomeOf a 0; head = zeroHead }) made
-      → DidMake (settleHead n w h) made
-  make-refused a {made} k e d =
-      subst (λ (r : MakeResult). DidMake r made) (ap (λ (o : Outcome). record { outcome = o; head = zeroHead }) e ∙ sym (settle-refused (λ p. k (ap (λ (o : Outcome). o .number) e ∙ p)))) d
-
-  pub make-done : {made : Made} → n ≡ 0 → DidMake (madeHead w h) made → DidMake (settleHead n w h) made
-  make-done {made} e d = subst (λ (r : MakeResult). DidMake r made) (sym (settle-made e)) d
+  pub make-done : n ≡ 0 → DidMake (madeHead w h) made → DidMake (settle n (madeHead w h) refusedHead) made
+  make-done e d = by-complete n (madeHead w h) refusedHead (λ (r : MakeResult). DidMake r made) e d

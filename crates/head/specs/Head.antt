@@ -1,7 +1,8 @@
--- A prepared head on every input: number, length, work and the head, from slips 2 and 5 of document 02; RFC 5297 2.4 takes the strings in order, so D over the first can be kept (source document 004, section 4).
+-- A prepared head on every input: number, length, work and the head, from slips 2 and 5 of document 02;
+-- RFC 5297 2.4 takes the strings in order, so D over the first can be kept (source document 004, section 4).
 -- Assumes nothing.
 use mathlib.Core.Path.{_≡_}
-use mathlib.Core.Bool.{Bool, not, cond, _&&_}
+use mathlib.Core.Bool.{Bool, not, _&&_}
 use mathlib.Core.List.{List, [], _∷_}
 use Prim.Native.Nat.{ℕ, _+_, _/_}
 use lib.Dec.{eqb, ltb}
@@ -12,7 +13,7 @@ use Rattle.aes.specs.KeyExpansion.{roundKeys}
 use Rattle.cmac.specs.Cmac.{zeros, subkeys, zeroCipher, zeroCipherWork}
 use Rattle.header.specs.Header.{total, strings}
 use Rattle.s2v.specs.S2v.{absorbStrings, absorbWork, headerResult, headerWork}
-use Rattle.answers.specs.Answer.{Outcome, success, refusal, outcomeOf, Row, row, first}
+use Rattle.answers.specs.Answer.{Outcome, success, refusal, outcomeOf, Row, row, first, settle}
 use Rattle.whole.specs.Calls.{headerRows}
 use Rattle.whole.specs.Siv.{macKey, ctrKey}
 use Rattle.head.specs.declared.Head.{Head}
@@ -81,19 +82,19 @@ pub record DidMake (result : MakeResult) (made : Made) : Type 0 where
   pub outcome : outcomeOf (made .answer) (made .work) ≡ result .outcome
   pub head : made .head ≡ result .head
 
--- success with a head and its work
+-- success with a head and its work, and a refusal, with the head all zero
 abbrev pub madeHead : ℕ → Head → MakeResult
 madeHead w h = record { outcome = success 0 w; head = h }
 
--- the result of a call whose rows give a number: that success, or the refusal with the head all zero
-abbrev pub settleHead : ℕ → ℕ → Head → MakeResult
-settleHead n w h = cond (eqb n 0) (madeHead w h) (record { outcome = refusal n; head = zeroHead })
+abbrev pub refusedHead : ℕ → MakeResult
+refusedHead n = record { outcome = refusal n; head = zeroHead }
 
 -- make a head from a key and the first strings of a header list
 unfoldable pub makeHead : List ℕ → List ℕ → List ℕ → MakeResult
 makeHead key bytes lens =
-    settleHead (first (headerRows (length key) lens (length bytes))) (headOfWork (strings bytes lens)) (headOf key (strings bytes lens))
+    settle (first (headerRows (length key) lens (length bytes))) (madeHead (headOfWork (strings bytes lens)) (headOf key (strings bytes lens))) refusedHead
 
 -- extend a head by the next strings
 unfoldable pub extendHead : Head → List ℕ → List ℕ → MakeResult
-extendHead h bytes lens = settleHead (first (restRows h lens (length bytes))) (extendedWork (strings bytes lens)) (extended h (strings bytes lens))
+extendHead h bytes lens =
+    settle (first (restRows h lens (length bytes))) (madeHead (extendedWork (strings bytes lens)) (extended h (strings bytes lens))) refusedHead

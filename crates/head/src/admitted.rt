@@ -1,7 +1,7 @@
 // What is done once a key, or a head, and header strings are admitted.
 ghost use Prim.Native.Nat.{_+_, _≤_};
 ghost use lib.ListN.{length};
-ghost use Rattle.header.specs.Header.{total, strings};
+ghost use Rattle.header.specs.Header.{total, stringsIn};
 ghost use Rattle.whole.specs.Calls.{Usable};
 ghost use Rattle.head.specs.Head.{headOf, headOfWork, extended, extendedWork, DidMake, madeHead};
 use crate::Head;
@@ -12,7 +12,7 @@ use answers::Answer;
 // Makes the head of a key and header strings.
 pub(crate) fn head_of(key: &[u8], header: &[u8], lens: &[u32]) -> Made
     requires { ⌜ Usable (now key) (now header) (now lens) ⌝ }
-    ensures { λ r. ⌜ DidMake (madeHead (headOfWork (strings (now (header .entry)) (now (lens .entry)))) (headOf (now (key .entry)) (strings (now (header .entry)) (now (lens .entry))))) r ⌝ }
+    ensures { λ r. ⌜ DidMake (madeHead (headOfWork (stringsIn header lens)) (headOf (now (key .entry)) (stringsIn header lens))) r ⌝ }
 {
     let engine = aes::engine();
     let width = key.len() / 2;
@@ -40,7 +40,7 @@ pub(crate) fn head_of(key: &[u8], header: &[u8], lens: &[u32]) -> Made
 // Extends a head by strings more; where there is none, no table is built.
 pub(crate) fn extended(head: Head, rest: &[u8], lens: &[u32]) -> Made
     requires { ⌜ (head .width ≤ 32) × (head .count + length (now lens) ≤ 126) × (total (now lens) ≤ length (now rest)) ⌝ }
-    ensures { λ r. ⌜ DidMake (madeHead (extendedWork (strings (now (rest .entry)) (now (lens .entry)))) (extended head (strings (now (rest .entry)) (now (lens .entry))))) r ⌝ }
+    ensures { λ r. ⌜ DidMake (madeHead (extendedWork (stringsIn rest lens)) (extended head (stringsIn rest lens))) r ⌝ }
 {
     if lens.len() == 0 {
         return Made {

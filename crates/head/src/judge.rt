@@ -1,6 +1,6 @@
 // Which refusal is due, from a head and from lengths.
 ghost use mathlib.Core.Path.{_≡_};
-ghost use Rattle.answers.specs.Answer.{outcomeOf, first, refusal};
+ghost use Rattle.answers.specs.Answer.{Judges};
 ghost use Rattle.head.specs.Head.{fitsHead, restRows};
 use crate::Head;
 use answers::Answer;
@@ -18,7 +18,7 @@ fn fits(head: Head) -> bool
 
 // The refusals of a head and the strings that follow its own.
 pub fn judge_rest(head: Head, lens: &[u32], rest_len: usize) -> Answer
-    ensures { λ r. ⌜ outcomeOf r 0 ≡ refusal (first (restRows head (now (lens .entry)) «rest_len»)) ⌝ }
+    ensures { λ r. ⌜ Judges (restRows head (now (lens .entry)) «rest_len») r ⌝ }
 {
     if !fits(head) {
         return Answer::Refused(Refusal::State);

@@ -1,4 +1,5 @@
-// A prepared head: a key and the first strings of a header list, worked through once; any number of stream states begin from it.
+// A prepared head: a key and the first strings of a header list, worked through once;
+// any number of stream states begin from it.
 mod admitted;
 pub mod judge;
 

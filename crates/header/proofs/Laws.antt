@@ -1,4 +1,4 @@
--- Laws of `total`, `strings` and `blocksOfAll`: joined lists of lengths, one string more, and a loop that counts the lengths.
+-- Laws of `total`, `strings` and `blocksOfAll`: joined lists of lengths, one string more, a loop over the lengths.
 -- Assumes nothing.
 use mathlib.Core.Path.{_≡_, refl, sym, ap, ap₂, _∙_}
 use mathlib.Core.Bool.{false}

@@ -1,6 +1,9 @@
--- What a walk of MIR by hand needs where every value in it is Copy: the locals in a row, what is had beside them, a call, the exit, and the way from the walk to the contract.
--- A walk's context is `Had P F` and then each local: its cell, and that it dies. So local i stands at 1 + 2 i, and the rules below read that from the statement.
--- `Had P F` is the lifetimes' tokens P and what the values own, F. All of F can be had twice, so a call takes from it what it is passed and leaves it as it was.
+-- What a walk of MIR by hand needs where every value in it is Copy: the locals in a row, what is had beside them,
+-- a call, the exit, and the way from the walk to the contract.
+-- A walk's context is `Had P F` and then each local: its cell, and that it dies. So local i stands at 1 + 2 i, and the
+-- rules below read that from the statement.
+-- `Had P F` is the lifetimes' tokens P and what the values own, F. All of F can be had twice, so a call takes from it
+-- what it is passed and leaves it as it was.
 -- Assumes nothing.
 use mathlib.Core.Path.{_≡_, refl, sym, ap, subst, _∙_}
 use mathlib.Core.Bool.{Bool}
@@ -209,7 +212,8 @@ module _ {M : Type 1} {𝓤 : URA M} {H : Heap 𝓤} {A : Atoms 𝓤} {K : Type 
 
 -- ---- the types
 
--- what a walk knows of a type: a value's machine values, which are of the MIR types, that what it owns can be had twice, and that a contract says nothing of it at exit
+-- what a walk knows of a type: a value's machine values, which are of the MIR types, that what it owns can be had
+-- twice, and that a contract says nothing of it at exit
 pub record Walkable {M : Type 1} (𝓤 : URA M) (H : Heap 𝓤) (A : Atoms 𝓤) (T : RattleType) : Type 1 where
   pub vals : T .Denot → List Val
   pub tells : Tells T (Is T) vals
@@ -383,7 +387,8 @@ module _ {M : Type 1} {𝓤 : URA M} {H : Heap 𝓤} {A : Atoms 𝓤} {K : Type 
       subst (λ (z : R .Denot). Seq K W (Had 𝓤 H A P F ∷ Γ) (lands C Λ E d (only (known .vals z)) rest q)) (sym e) (k (subst (λ (z : R .Denot). Is R z (only (known .vals z) ∷ [])) e is)))
 
 module _ {M : Type 1} (𝓤 : URA M) (H : Heap 𝓤) (𝓜 : Model 𝓤 H) (𝓖 : GhostRules 𝓤 H) (𝓡 : Running 𝓤 H 𝓜) (γ : Meanings) where
-  -- a walk of a function's code at each choice of lifetimes, shares and arguments, from the fact φ that it requires, is the function's theorem
+  -- a walk of a function's code at each choice of lifetimes, shares and arguments, from the fact φ that it requires,
+  -- is the function's theorem
   pub closed : (k : Name) (e : Fn) → Closed 𝓤 H (tables 𝓤 H 𝓜 𝓡 γ .C) (tables 𝓤 H 𝓜 𝓡 γ .Λ) k e → (T : Ended) (c : Clauses 𝓤 T) (ps : (κs : Lfts (T .signature .lifetimes)) → Params 𝓤 H (𝓖 .A) T c κs)
       → (φ : (κs : Lfts (T .signature .lifetimes)) → Args (T .signature) κs → Type 0) → ((κs : Lfts (T .signature .lifetimes)) (a : Args (T .signature) κs) (g : c κs a .ghost) → ent 𝓤 (c κs a .requires g) (fact 𝓤 (φ κs a)))
       → ((κs : Lfts (T .signature .lifetimes)) (qs : Shares (T .signature .lifetimes)) (bounds : AllOutlive (T .signature .lifetimes) (T .signature .outlives) κs) (a : Args (T .signature) κs) (g : c κs a .ghost) → φ κs a

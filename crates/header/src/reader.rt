@@ -1,4 +1,4 @@
-// A reader of the header buffer: it holds the lent bytes and a place, and hands out each string as a part of the buffer.
+// A reader of the header buffer: it holds the lent bytes and a place, and hands out each string as a part of them.
 ghost use mathlib.Core.Path.{_≡_};
 ghost use Prim.Native.Nat.{_+_, _≤_};
 ghost use lib.ListN.{length};

@@ -1,4 +1,4 @@
--- What the code writes, keeps and counts of a piece, by whether it goes beyond the kept block, over any block function E.
+-- What the code writes, keeps and counts of a piece, by whether it goes beyond the kept block, over any block function.
 -- Assumes nothing.
 use mathlib.Core.Path.{_≡_, ap, ap₂, sym, _∙_}
 use mathlib.Core.Bool.{cond}
@@ -8,72 +8,86 @@ use native.Mathlib.Omega.{arith}
 use lib.Dec.{eqb}
 use lib.ListN.{length, take, drop, length-drop}
 use lib.Seq.{take-all, length-take-le}
-use Rattle.octets.specs.Octets.{xors, put}
+use denote.Ref.{now}
+use Rattle.octets.specs.Octets.{xors, put, Lent, Writes}
 use Rattle.octets.proofs.Strings.{length-xors, put-put, part-rest}
+use Rattle.aes.specs.declared.Counted.{Counted}
+use Rattle.aes.specs.Work.{Reports}
 use Rattle.keystream.specs.KeyStream.{keyStreamWork, xorStream}
-use Rattle.keystream.specs.Pieces.{noBlock, begunBlock, leftOver, pieceWork, xorPiece, keptAfter}
+use Rattle.keystream.specs.Pieces.{noBlock, begunBlock, leftOver, pieceWork, xorPiece, keptAfter, XorsPiece}
 use Rattle.keystream.proofs.Laws.{pieceWork-within, pieceWork-beyond, pieceWork-fresh, xorPiece-within, keptAfter-within, xorPiece-beyond, keptAfter-beyond, xorPiece-fresh, keptAfter-fresh}
 
--- n bytes of a piece are xored with what the kept block has for them
-module _ (E : List ℕ → List ℕ) (sized : (b : List ℕ) → length (E b) ≡ 16) (v kept : List ℕ) (long : length kept ≡ 16) (place : ℕ) (text l : List ℕ) (at n : ℕ)
-    (taken : n ≡ min (leftOver place) (length text)) where
-  -- as the code has it: `&piece[..n]` and `&kept[place % 16..]`
-  abbrev fromKept : List ℕ
-  fromKept = xors (take n text) (take (16 - place % 16) (drop (place % 16) kept))
+-- n bytes of a piece xored with what the kept block has for them, as in the code: `&piece[..n]`, `&kept[place % 16..]`
+abbrev pub fromKept : List ℕ → ℕ → List ℕ → ℕ → List ℕ
+fromKept kept place text n = xors (take n text) (take (16 - place % 16) (drop (place % 16) kept))
 
-  from-kept : fromKept ≡ xors (take n text) (drop (place % 16) kept)
+module _ (E : List ℕ → List ℕ) (sized : (b : List ℕ) → length (E b) ≡ 16) (v kept : List ℕ) (long : length kept ≡ 16) (place : ℕ) (src dst : Lent) (at n : ℕ)
+    (taken : n ≡ min (leftOver place) (length (now (src .entry)))) where
+  abbrev text : List ℕ
+  text = now (src .entry)
+
+  abbrev front : List ℕ
+  front = fromKept kept place text n
+
+  from-kept : front ≡ xors (take n text) (drop (place % 16) kept)
   from-kept = ap (xors (take n text)) (take-all (16 - place % 16) (drop (place % 16) kept) (omega (arith, length-drop (place % 16) kept)))
 
-  length-fromKept : length fromKept ≡ n
-  length-fromKept = length-xors (take n text) _ ∙ length-take-le n text (omega arith)
+  length-front : length front ≡ n
+  length-front = length-xors (take n text) _ ∙ length-take-le n text (omega arith)
 
   -- where these are all
-  module _ (all : n ≡ length text) where
-    pub streamed-within : {last : List ℕ} → last ≡ put l at fromKept → last ≡ put l at (xorPiece E v kept place text)
-    streamed-within e =
-        e
-        ∙ ap (put l at) (from-kept ∙ ap (λ (t : List ℕ). xors t (drop (place % 16) kept)) (take-all n text (omega arith)) ∙ sym (xorPiece-within E v kept place text (omega arith)))
-
-    pub kept-within : cond (eqb ((place + n) % 16) 0) noBlock kept ≡ keptAfter E v kept place (length text)
-    kept-within = ap (λ (m : ℕ). cond (eqb ((place + m) % 16) 0) noBlock kept) all ∙ sym (keptAfter-within E v kept place (length text) (omega arith))
-
-    pub work-within : 0 ≡ pieceWork place (length text)
-    work-within = sym (pieceWork-within place (length text) (omega arith))
+  pub piece-within : n ≡ length text → {r : Counted} → Reports (cond (eqb ((place + n) % 16) 0) noBlock kept) 0 r → Writes dst at front
+      → XorsPiece E v kept place src dst at r
+  piece-within all still wrote =
+      record {
+        kept = record {
+          block = still .block ∙ ap (λ (m : ℕ). cond (eqb ((place + m) % 16) 0) noBlock kept) all ∙ sym (keptAfter-within E v kept place (length text) (omega arith));
+          work = still .work ∙ sym (pieceWork-within place (length text) (omega arith));
+        };
+        text =
+            wrote
+            ∙ ap (put _ at) (from-kept ∙ ap (λ (t : List ℕ). xors t (drop (place % 16) kept)) (take-all n text (omega arith)) ∙ sym (xorPiece-within E v kept place text (omega arith)));
+      }
 
   -- where more follow, from the next block on: `&piece[n..]`
   module _ (more : n ≡ length text → ⊥) where
     abbrev fromNew : List ℕ
     fromNew = take (length text - n) (drop n text)
 
-    from-new : fromNew ≡ drop n text
-    from-new = part-rest text n
-
     used-up : n ≡ leftOver place
     used-up = omega (arith, taken, more)
 
-    pub streamed-beyond : at + length text ≤ length l → {wrote last : List ℕ} → wrote ≡ put l at fromKept
-        → last ≡ put wrote (at + n) (xorPiece E v noBlock (16 * ((place + n) / 16)) fromNew) → last ≡ put l at (xorPiece E v kept place text)
-    streamed-beyond room {wrote} w e =
-        let next : 16 * ((place + n) / 16) ≡ place + n = omega (arith, used-up) in
-        let seam : at + n ≡ at + length fromKept = ap (λ (k : ℕ). at + k) (sym length-fromKept) in
-        let rest : List ℕ = xorStream E v (place + n) (drop n text) in
-        e
-        ∙ ap (put wrote (at + n)) (xorPiece-fresh E sized v ((place + n) / 16) fromNew)
-        ∙ ap₂ (λ (x : List ℕ) (k : ℕ). put x (at + n) (xorStream E v k fromNew)) w next
-        ∙ ap₂ (λ (k : ℕ) (t : List ℕ). put (put l at fromKept) k (xorStream E v (place + n) t)) seam from-new
-        ∙ put-put l at fromKept rest (omega (arith, length-fromKept, taken))
-        ∙ ap (λ (t : List ℕ). put l at (t ++ rest)) from-kept
-        ∙ ap (λ (k : ℕ). put l at (xors (take k text) (drop (place % 16) kept) ++ xorStream E v (place + k) (drop k text))) used-up
-        ∙ ap (put l at) (sym (xorPiece-beyond E sized v kept place text long (omega (arith, taken, used-up))))
+    length-fromNew : length fromNew ≡ length text - n
+    length-fromNew = ap length (part-rest text n) ∙ length-drop n text
 
-    pub kept-beyond : keptAfter E v noBlock (16 * ((place + n) / 16)) (length fromNew) ≡ keptAfter E v kept place (length text)
-    kept-beyond =
-        let end : 16 * ((place + n) / 16) + length fromNew ≡ place + length text = omega (arith, used-up, taken, ap length from-new, length-drop n text) in
-        keptAfter-fresh E sized v ((place + n) / 16) (length fromNew)
-        ∙ ap (begunBlock E v) end
-        ∙ sym (keptAfter-beyond E sized v kept place (length text) long (omega (arith, taken, used-up)))
-
-    pub work-beyond : pieceWork (16 * ((place + n) / 16)) (length fromNew) ≡ pieceWork place (length text)
-    work-beyond =
-        let count : length fromNew ≡ length text - leftOver place = omega (arith, used-up, ap length from-new, length-drop n text) in
-        pieceWork-fresh ((place + n) / 16) (length fromNew) ∙ ap keyStreamWork count ∙ sym (pieceWork-beyond place (length text) (omega (arith, taken, used-up)))
+    pub piece-beyond : at + length text ≤ length (now (dst .entry)) → {wrote : List ℕ} → wrote ≡ put (now (dst .entry)) at front
+        → {r : Counted} → Reports (keptAfter E v noBlock (16 * ((place + n) / 16)) (length fromNew)) (pieceWork (16 * ((place + n) / 16)) (length fromNew)) r
+        → now (dst .exit) ≡ put wrote (at + n) (xorPiece E v noBlock (16 * ((place + n) / 16)) fromNew)
+        → XorsPiece E v kept place src dst at r
+    piece-beyond room {wrote} w rest e =
+        let l : List ℕ = now (dst .entry) in
+        let i : ℕ = (place + n) / 16 in
+        let next : 16 * i ≡ place + n = omega (arith, used-up) in
+        let beyond : leftOver place ≤ length text = omega (arith, taken, used-up) in
+        let end : 16 * i + length fromNew ≡ place + length text = omega (arith, next, taken, length-fromNew) in
+        let count : length fromNew ≡ length text - leftOver place = omega (arith, used-up, length-fromNew) in
+        let stream : List ℕ = xorStream E v (place + n) (drop n text) in
+        record {
+          kept = record {
+            block =
+                rest .block
+                ∙ keptAfter-fresh E sized v i (length fromNew)
+                ∙ ap (begunBlock E v) end
+                ∙ sym (keptAfter-beyond E sized v kept place (length text) long beyond);
+            work = rest .work ∙ pieceWork-fresh i (length fromNew) ∙ ap keyStreamWork count ∙ sym (pieceWork-beyond place (length text) beyond);
+          };
+          text =
+              e
+              ∙ ap (put wrote (at + n)) (xorPiece-fresh E sized v i fromNew)
+              ∙ ap₂ (λ (k : ℕ) (t : List ℕ). put wrote (at + n) (xorStream E v k t)) next (part-rest text n)
+              ∙ ap₂ (λ (x : List ℕ) (k : ℕ). put x (at + k) stream) w (sym length-front)
+              ∙ put-put l at front stream (omega (arith, length-front, taken))
+              ∙ ap (λ (t : List ℕ). put l at (t ++ stream)) from-kept
+              ∙ ap (λ (k : ℕ). put l at (xors (take k text) (drop (place % 16) kept) ++ xorStream E v (place + k) (drop k text))) used-up
+              ∙ ap (put l at) (sym (xorPiece-beyond E sized v kept place text long beyond));
+        }

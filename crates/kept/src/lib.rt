@@ -4,10 +4,8 @@ ghost use mathlib.Core.Bool.{cond};
 ghost use Prim.Native.Nat.{_+_, _%_, _^_, _≤_, min};
 ghost use lib.Dec.{eqb};
 ghost use lib.ListN.{length};
-ghost use Rattle.octets.specs.Octets.{put};
 ghost use Rattle.aes.specs.Cipher.{cipher};
-ghost use Rattle.aes.specs.Work.{Reports};
-ghost use Rattle.keystream.specs.Pieces.{noBlock, leftOver, pieceWork, xorPiece, keptAfter};
+ghost use Rattle.keystream.specs.Pieces.{noBlock, leftOver, XorsPiece};
 use aes::Counted;
 use aes::RoundKeys;
 use octets::Block;
@@ -33,7 +31,8 @@ fn still_kept(kept: Block, end: usize) -> Block
     kept
 }
 
-// Writes a piece, xored with the key stream from a place of it on, at place at of a slice: what the kept block has for it, then new blocks; where none is needed, no table is built. Gives the block that is kept then, and the work.
+// Writes a piece, xored with the key stream from a place of it on, at place at of a slice: what the kept block has
+// for it, then new blocks; where none is needed, no table is built. Gives the block that is kept then, and the work.
 pub fn xor_piece(
     width: usize,
     keys: &RoundKeys,
@@ -45,8 +44,7 @@ pub fn xor_piece(
     at: usize,
 ) -> Counted
     requires { ⌜ (width ≤ 32) × (place + length (now piece) ≤ 2 ^ 61) × (at + length (now piece) ≤ length (now dst)) ⌝ }
-    ensures kept { λ r. ⌜ Reports (keptAfter (cipher width (now (keys .entry))) v kept place (length (now (piece .entry)))) (pieceWork place (length (now (piece .entry)))) r ⌝ }
-    ensures text { λ _. ⌜ now (dst .exit) ≡ put (now (dst .entry)) at (xorPiece (cipher width (now (keys .entry))) v kept place (now (piece .entry))) ⌝ }
+    ensures { λ r. ⌜ XorsPiece (cipher width (now (keys .entry))) v kept place piece dst at r ⌝ }
 {
     let n = from_kept(place, piece.len());
     octets::xor_at(dst, at, &piece[..n], &kept[place % 16..]);

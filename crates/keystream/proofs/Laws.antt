@@ -1,4 +1,5 @@
--- Laws of the key stream, for any block function: work, lengths, undoing, prefixes, pieces that join, and the block that is kept between two.
+-- Laws of the key stream, for any block function: work, lengths, undoing, prefixes, pieces that join,
+-- and the block that is kept between two.
 -- Assumes nothing.
 use mathlib.Core.Path.{_≡_, refl, sym, ap, ap₂, _∙_}
 use mathlib.Core.Bool.{Bool, true, false, cond}

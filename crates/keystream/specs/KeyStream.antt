@@ -1,4 +1,4 @@
--- RFC 5297, 2.6: the key stream, over any block function; beside what calls it stands its work, the number of these calls.
+-- RFC 5297, 2.6: the key stream, over any block function; beside what calls it stands its work, the number of calls.
 -- Assumes nothing.
 use mathlib.Core.List.{List, [], _++_}
 use Prim.Native.Nat.{ℕ, zero, suc, _+_, _/_}

@@ -1,11 +1,15 @@
--- A key stream that is used piece by piece: the block that a piece begins and does not use up is kept for the next one. Slip 5 of document 02.
+-- A key stream that is used piece by piece, slip 5 of document 02: the block that a piece begins and does not use up
+-- is kept for the next one.
 -- Assumes nothing.
 use mathlib.Core.Bool.{cond}
 use mathlib.Core.List.{List, _++_}
 use Prim.Native.Nat.{ℕ, _+_, _-_, _*_, _/_, _%_}
 use lib.Dec.{eqb}
 use lib.ListN.{length, drop, replicate}
-use Rattle.octets.specs.Octets.{xors}
+use denote.Ref.{now}
+use Rattle.octets.specs.Octets.{xors, Lent, Writes}
+use Rattle.aes.specs.declared.Counted.{Counted}
+use Rattle.aes.specs.Work.{Reports}
 use Rattle.counter.specs.Counter.{initialCounter, counterBlock}
 use Rattle.keystream.specs.KeyStream.{blocksBegun, streamBlocks, streamWork}
 
@@ -13,7 +17,8 @@ use Rattle.keystream.specs.KeyStream.{blocksBegun, streamBlocks, streamW
 abbrev pub noBlock : List ℕ
 noBlock = replicate 16 0
 
--- the key stream's own block that its first n bytes begin and do not use up: it says which one that is, wherever it was made, and has no work
+-- the key stream's own block that its first n bytes begin and do not use up: it says which one that is,
+-- wherever it was made, and has no work
 unfoldable pub begunBlock : (List ℕ → List ℕ) → List ℕ → ℕ → List ℕ
 begunBlock E v n = cond (eqb (n % 16) 0) noBlock (E (counterBlock (initialCounter v) (n / 16)))
 
@@ -40,3 +45,9 @@ xorPiece E v kept place s = xors s (drop (16 - leftOver place) (atHand E v kept 
 unfoldable pub keptAfter : (List ℕ → List ℕ) → List ℕ → List ℕ → ℕ → ℕ → List ℕ
 keptAfter E v kept place n =
     cond (eqb ((place + n) % 16) 0) noBlock (drop (16 * newBlocks place n) (atHand E v kept place n))
+
+-- what a piece of the key stream promises: src, xored from byte `place` on, is at place `at` of dst,
+-- and r is the block that is kept then, with its work
+pub record XorsPiece (E : List ℕ → List ℕ) (v old : List ℕ) (place : ℕ) (src dst : Lent) (at : ℕ) (r : Counted) : Type 0 where
+  pub kept : Reports (keptAfter E v old place (length (now (src .entry)))) (pieceWork place (length (now (src .entry)))) r
+  pub text : Writes dst at (xorPiece E v old place (now (src .entry)))

@@ -2,13 +2,13 @@
 ghost use mathlib.Core.Path.{_≡_};
 ghost use Prim.Native.Nat.{_+_, _*_, _^_, _≤_};
 ghost use lib.ListN.{length, take};
-ghost use Rattle.octets.specs.Octets.{put};
+ghost use Rattle.octets.specs.Octets.{Writes};
 ghost use Rattle.aes.specs.Cipher.{cipher};
-ghost use Rattle.aes.specs.Engine.{Ready};
+ghost use Rattle.aes.specs.Engine.{CanEncrypt};
 ghost use Rattle.aes.specs.Work.{Reports};
 ghost use Rattle.counter.specs.Counter.{initialCounter, counterBlock};
 ghost use Rattle.keystream.specs.KeyStream.{streamWork, xorStream};
-ghost use Rattle.keystream.specs.Pieces.{noBlock, pieceWork, xorPiece, keptAfter};
+ghost use Rattle.keystream.specs.Pieces.{noBlock, XorsPiece};
 use aes::Counted;
 use aes::Engine;
 use aes::RoundKeys;
@@ -25,11 +25,16 @@ fn xor_with_block(
     dst: &mut [u8],
     at: usize,
 ) -> Counted
-    requires { ⌜ Ready (now engine) × (width ≤ 32) × (length (now src) ≤ 16) × (at + length (now src) ≤ length (now dst)) ⌝ }
+    requires { ⌜ CanEncrypt (now engine) width × (length (now src) ≤ 16) × (at + length (now src) ≤ length (now dst)) ⌝ }
     ensures block { λ r. ⌜ Reports (cipher width (now (keys .entry)) (counterBlock (initialCounter v) i)) 1 r ⌝ }
-    ensures text { λ _. ⌜ now (dst .exit) ≡ put (now (dst .entry)) at (xorStream (cipher width (now (keys .entry))) v (16 * i) (now (src .entry))) ⌝ }
+    ensures text { λ _. ⌜ Writes dst at (xorStream (cipher width (now (keys .entry))) v (16 * i) (now (src .entry))) ⌝ }
 {
-    let made = aes::encrypt(engine, width, keys, counter::counter_block(counter::initial_counter(v), i));
+    let made = aes::encrypt(
+        engine,
+        width,
+        keys,
+        counter::counter_block(counter::initial_counter(v), i),
+    );
     let block = made.block;
     octets::xor_at(dst, at, src, &block);
     made
@@ -47,9 +52,9 @@ fn xor_blocks(
     dst: &mut [u8],
     at: usize,
 ) -> usize
-    requires { ⌜ Ready (now engine) × (width ≤ 32) × (i ≤ 2 ^ 61) × (16 * n ≤ length (now src)) × (at + 16 * n ≤ length (now dst)) ⌝ }
+    requires { ⌜ CanEncrypt (now engine) width × (i ≤ 2 ^ 61) × (16 * n ≤ length (now src)) × (at + 16 * n ≤ length (now dst)) ⌝ }
     ensures work { λ r. ⌜ r ≡ streamWork n ⌝ }
-    ensures text { λ _. ⌜ now (dst .exit) ≡ put (now (dst .entry)) at (xorStream (cipher width (now (keys .entry))) v (16 * i) (take (16 * n) (now (src .entry)))) ⌝ }
+    ensures text { λ _. ⌜ Writes dst at (xorStream (cipher width (now (keys .entry))) v (16 * i) (take (16 * n) (now (src .entry)))) ⌝ }
 {
     let mut work = 0;
     let mut j = 0;
@@ -70,7 +75,8 @@ fn xor_blocks(
     work
 }
 
-// Writes src, xored with the key stream from block i on, at place at of a slice: whole blocks, then the short end. Gives the block that the end begins, zeros where it is whole, and the work.
+// Writes src, xored with the key stream from block i on, at place at of a slice: whole blocks, then the short end.
+// Gives the block that the end begins, zeros where it is whole, and the work.
 pub fn xor_from(
     engine: &Engine,
     width: usize,
@@ -81,9 +87,8 @@ pub fn xor_from(
     dst: &mut [u8],
     at: usize,
 ) -> Counted
-    requires { ⌜ Ready (now engine) × (width ≤ 32) × (i ≤ 2 ^ 61) × (at + length (now src) ≤ length (now dst)) ⌝ }
-    ensures kept { λ r. ⌜ Reports (keptAfter (cipher width (now (keys .entry))) v noBlock (16 * i) (length (now (src .entry)))) (pieceWork (16 * i) (length (now (src .entry)))) r ⌝ }
-    ensures text { λ _. ⌜ now (dst .exit) ≡ put (now (dst .entry)) at (xorPiece (cipher width (now (keys .entry))) v noBlock (16 * i) (now (src .entry))) ⌝ }
+    requires { ⌜ CanEncrypt (now engine) width × (i ≤ 2 ^ 61) × (at + length (now src) ≤ length (now dst)) ⌝ }
+    ensures { λ r. ⌜ XorsPiece (cipher width (now (keys .entry))) v noBlock (16 * i) src dst at r ⌝ }
 {
     let n = src.len() / 16;
     let work = xor_blocks(engine, width, keys, v, i, n, src, dst, at);

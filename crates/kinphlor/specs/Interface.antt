@@ -1,4 +1,5 @@
--- The C interface, "the host door" of document 01: whole sealing and opening with associated data and nonce, and opening under a ring of keys; their work, planned from lengths; and the worst header list.
+-- The C interface, "the host door" of document 01: whole sealing and opening with associated data and nonce,
+-- and opening under a ring of keys; their work, planned from lengths; and the worst header list.
 -- Assumes nothing.
 use mathlib.Core.Path.{_≡_}
 use mathlib.Core.Bool.{Bool, cond, _&&_}
@@ -7,9 +8,10 @@ use Prim.Native.Nat.{ℕ, _+_, _*_, _/_, _%_}
 use lib.Dec.{eqb}
 use lib.ListN.{length}
 use denote.Ref.{now}
+use Rattle.octets.specs.Octets.{Lent}
 use Rattle.answers.specs.Answer.{Outcome, refusal, first}
 use Rattle.worst_header.specs.WorstHeader.{GivesWorst}
-use Rattle.whole.specs.Calls.{isKeyLength, CallResult, refusedCall, sealCall, openCall, Lent}
+use Rattle.whole.specs.Calls.{isKeyLength, CallResult, refusedCall, sealCall, openCall}
 use Rattle.whole.specs.Ring.{ringRows, RingResult, refusedRing, openRing}
 use Rattle.whole.specs.Work.{plannedWork}
 
@@ -45,7 +47,8 @@ pub record DidPacked (result : CallResult) (given : ℕ) (lastOutput lastScratch
   pub output : lastOutput ≡ result .output
   pub scratch : lastScratch ≡ result .scratch
 
--- what a call of the interface promises: with what the lent slices held at entry, its number and what output and scratch hold at exit are the definition's
+-- what a call of the interface promises: with what the lent slices held at entry,
+-- its number and what output and scratch hold at exit are the definition's
 abbrev pub PerformsFromC : (List ℕ → List ℕ → ℕ → ℕ → List ℕ → List ℕ → List ℕ → CallResult) → Lent → Lent → ℕ → ℕ → Lent → Lent → Lent → ℕ → Type 0
 PerformsFromC call key header ad nonce input output scratch given =
     DidPacked (call (now (key .entry)) (now (header .entry)) ad nonce (now (input .entry)) (now (output .entry)) (now (scratch .entry))) given
@@ -82,7 +85,8 @@ PerformsRingFromC keyLength ring header ad nonce input output scratch given =
 
 -- ---- planning
 
--- the work that sealing and opening report for such lengths, which the number does not carry: 0 where the call is refused for them
+-- the work that sealing and opening report for such lengths,
+-- which the number does not carry: 0 where the call is refused for them
 unfoldable pub plannedFromC : ℕ → ℕ → ℕ → ℕ
 plannedFromC ad nonce n = cond (eqb nonce 0) 0 (plannedWork (aeadLens ad nonce) n)
 

@@ -1,4 +1,5 @@
-// The C interface: whole sealing and opening over byte slices, and opening under a ring of keys, with associated data and nonce as the header list; their work, planned from lengths; and the worst header list.
+// The C interface: whole sealing and opening over byte slices, and opening under a ring of keys,
+// with associated data and nonce as the header list; their work, planned from lengths; and the worst header list.
 ghost use mathlib.Core.Path.{_≡_};
 ghost use Prim.Native.Nat.{_≤_};
 ghost use Rattle.answers.specs.Answer.{outcomeOf};
@@ -113,7 +114,8 @@ pub extern "C" fn kinphlor_open_ring(
     pack_ring(ring::open_ring(key_len, ring, header, &lens, input, output, scratch))
 }
 
-// How many blocks go through the cipher to seal n bytes, or to open what that gives, with associated data and nonce of these lengths: for planning, from lengths alone. 0 for an empty nonce and for n over the limit.
+// For planning, from lengths alone: how many blocks go through the cipher to seal n bytes, or to open what that gives,
+// with associated data and nonce of these lengths. 0 for an empty nonce and for n over the limit.
 #[no_mangle]
 pub extern "C" fn kinphlor_planned_work(ad_len: u32, nonce_len: u32, n: usize) -> u64
     ensures { λ r. ⌜ r ≡ plannedFromC «ad_len» «nonce_len» n ⌝ }
@@ -125,7 +127,9 @@ pub extern "C" fn kinphlor_planned_work(ad_len: u32, nonce_len: u32, n: usize) -
     admission::planned_work(&lens, n) as u64
 }
 
-// The worst header list: of all lists of count lengths that sum to header_len, none under the least, one whose strings have the most blocks, to the lent places. The number is the answer's times 2 to the power 32, plus these blocks; after 12 places and blocks are zero.
+// The worst header list, to the lent places: of all lists of count lengths that sum to header_len,
+// none under the least, one whose strings have the most blocks.
+// The number is the answer's times 2 to the power 32, plus these blocks; after 12 places and blocks are zero.
 #[no_mangle]
 pub extern "C" fn kinphlor_worst_header(
     header_len: usize,

@@ -1,4 +1,4 @@
-// What a head and a state have alike, as bytes: a number is eight of them with the lowest first, and round keys are 240.
+// What a head and a state have alike, as bytes: a number is eight of them, the lowest first, and round keys are 240.
 ghost use Prim.Native.Nat.{_+_, _≤_};
 ghost use lib.ListN.{length};
 use aes::RoundKeys;

@@ -1,4 +1,5 @@
-// The calls that the C interface leaves out, exported for the host tests alone: whole calls with any header list, and each piecewise call on a head or a state given as bytes. A call's work comes through its last buffer.
+// The calls that the C interface leaves out, exported for the host tests alone: whole calls with any header list,
+// and each piecewise call on a head or a state given as bytes. A call's work comes through its last buffer.
 mod fields;
 mod heads;
 mod pieces;
@@ -13,10 +14,11 @@ use stream::Step;
 use stream::Stream;
 use whole::Report;
 
-// What a call answers where a state's buffer has not state::LEN bytes, or a head's not heads::LEN: no number of document 01's.
+// What a call answers where a state's buffer has not state::LEN bytes, or a head's not heads::LEN:
+// no number of document 01's.
 const NO_BUFFER: u64 = 0xffffffff00000000;
 
-// Hands a call's work back through a buffer of eight bytes, the lowest first; a buffer of another length stays as it is.
+// Hands a call's work back through a buffer of eight bytes, the lowest first; one of another length stays as it is.
 fn give_work(blocks: usize, to: &mut [u8]) {
     if to.len() != 8 {
         return;
@@ -256,7 +258,8 @@ pub extern "C" fn probe_finish(bytes: &mut [u8], output: &mut [u8], work: &mut [
     give(state::load(bytes).finish(output), bytes, work)
 }
 
-// Seals input by pieces of at most n bytes, n at least 1: the tag and then the ciphertext to the front of output. The state never leaves this call, so that it can be timed.
+// Seals input by pieces of at most n bytes, n at least 1: the tag and then the ciphertext to the front of output.
+// The state never leaves this call, so that it can be timed.
 #[no_mangle]
 pub extern "C" fn probe_seal_pieces(
     key: &[u8],
@@ -286,7 +289,8 @@ pub extern "C" fn probe_open_pieces(
     kinphlor::pack(pieces::open(begun, &input[16..], n, output))
 }
 
-// Seals input as records of n bytes, all begun from one head: each record's tag and ciphertext behind the last's in output. The head never leaves this call, so that it can be timed.
+// Seals input as records of n bytes, all begun from one head: each record's tag and ciphertext behind the last's in
+// output. The head never leaves this call, so that it can be timed.
 #[no_mangle]
 pub extern "C" fn probe_seal_records(
     key: &[u8],
@@ -299,7 +303,8 @@ pub extern "C" fn probe_seal_records(
     kinphlor::pack(records::run(Head::make(key, header, lens), false, input, n, output))
 }
 
-// Opens sealed strings of records of n bytes, all begun from one head: each record's plaintext behind the last's in output.
+// Opens sealed strings of records of n bytes, all begun from one head:
+// each record's plaintext behind the last's in output.
 #[no_mangle]
 pub extern "C" fn probe_open_records(
     key: &[u8],

@@ -1,4 +1,5 @@
-// A whole string sealed or opened by pieces of one length. Lengths are judged first: after a begin that succeeded no call is refused but finish, with 8, and after one that was refused each is, with 9, so that the last answer tells.
+// A whole string sealed or opened by pieces of one length. Lengths are judged first: after a begin that succeeded no
+// call is refused but finish, with 8, and after one that was refused each is, with 9, so that the last answer tells.
 ghost use Prim.Native.Nat.{_+_, _≤_, _<_};
 ghost use lib.ListN.{length};
 use answers::Answer;

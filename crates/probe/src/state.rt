@@ -6,7 +6,8 @@ use crate::fields;
 use stream::Stream;
 use stream::Tail;
 
-// How many bytes a state has: stage 1, width 8, two times 240, five times 16, total, written and the tail's length 8 each, tail 31.
+// How many bytes a state has: stage 1, width 8, two times 240, five times 16, total, written and the tail's length
+// 8 each, tail 31.
 pub(crate) const LEN: usize = 624;
 
 fn tail_at(s: &[u8], at: usize) -> Tail

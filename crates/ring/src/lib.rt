@@ -1,20 +1,15 @@
 // Whole opening under a ring of keys.
 ghost use mathlib.Core.Path.{_≡_};
-ghost use mathlib.Core.Bool.{true};
-ghost use Prim.Native.Nat.{_+_, _-_, _*_, _≤_, _<_};
-ghost use lib.ListN.{length, drop};
-ghost use Rattle.octets.specs.Octets.{put};
 ghost use Rattle.aes.specs.Engine.{Ready};
-ghost use Rattle.header.specs.Header.{total, strings};
-ghost use Rattle.whole.specs.Calls.{isKeyLength};
-ghost use Rattle.whole.specs.Ring.{PerformsRing, slotKey, trySlots, givenSlot};
-ghost use Rattle.whole.specs.Siv.{opened, genuine, genuineWork};
+ghost use Rattle.header.specs.Header.{stringsIn, Walkable};
+ghost use Rattle.whole.specs.Ring.{PerformsRing, slotKey, HasSlot, HasSlots, TriesSlots, givenSlot};
+ghost use Rattle.whole.specs.Siv.{Decrypts, Openable};
 use admission::TAG_LEN;
 use aes::Engine;
 use answers::Answer;
-use siv::admitted::Verdict;
 use whole::Found;
 use whole::RingAnswer;
+use whole::Verdict;
 
 // Opens under the key of one slot of a ring.
 fn try_slot(
@@ -27,10 +22,8 @@ fn try_slot(
     sealed: &[u8],
     scratch: &mut [u8],
 ) -> Verdict
-    requires { ⌜ Ready (now engine) × (isKeyLength «key_len» ≡ true) × (slot * «key_len» + «key_len» ≤ length (now ring)) × (total (now lens) ≤ length (now header)) × (length (now lens) ≤ 126) × (16 ≤ length (now sealed)) × (length (now sealed) ≤ 16 + length (now scratch)) ⌝ }
-    ensures judged { λ r. ⌜ r .genuine ≡ genuine (slotKey «key_len» (now (ring .entry)) slot) (strings (now (header .entry)) (now (lens .entry))) (now (sealed .entry)) ⌝ }
-    ensures work { λ r. ⌜ r .work ≡ genuineWork (slotKey «key_len» (now (ring .entry)) slot) (strings (now (header .entry)) (now (lens .entry))) (now (sealed .entry)) ⌝ }
-    ensures text { λ _. ⌜ now (scratch .exit) ≡ put (now (scratch .entry)) 0 (opened (slotKey «key_len» (now (ring .entry)) slot) (now (sealed .entry))) ⌝ }
+    requires { ⌜ Ready (now engine) × HasSlot «key_len» (now ring) slot × Walkable (now header) (now lens) × Openable (now sealed) (now scratch) ⌝ }
+    ensures { λ r. ⌜ Decrypts (slotKey «key_len» (now (ring .entry)) slot) (stringsIn header lens) (now (sealed .entry)) scratch r ⌝ }
 {
     let at = slot * key_len;
     siv::admitted::decrypt_and_verify(
@@ -43,7 +36,8 @@ fn try_slot(
     )
 }
 
-// Tries the slots of a ring from slot 0 on: ends at the first whose key opens, with its plaintext at the front of scratch, or behind the last.
+// Tries the slots of a ring from slot 0 on: ends behind the last, or at the first whose key opens.
+// Its plaintext is then at the front of scratch.
 fn try_slots(
     key_len: usize,
     slots: usize,
@@ -53,10 +47,8 @@ fn try_slots(
     sealed: &[u8],
     scratch: &mut [u8],
 ) -> Found
-    requires { ⌜ (isKeyLength «key_len» ≡ true) × (slots * «key_len» ≡ length (now ring)) × (slots ≤ 4) × (total (now lens) ≤ length (now header)) × (length (now lens) ≤ 126) × (16 ≤ length (now sealed)) × (length (now sealed) ≤ 16 + length (now scratch)) ⌝ }
-    ensures found { λ r. ⌜ r ≡ trySlots (λ i. genuine (slotKey «key_len» (now (ring .entry)) i) (strings (now (header .entry)) (now (lens .entry))) (now (sealed .entry))) (λ i. genuineWork (slotKey «key_len» (now (ring .entry)) i) (strings (now (header .entry)) (now (lens .entry))) (now (sealed .entry))) 0 0 slots ⌝ }
-    ensures text { λ r. ⌜ (r .slot < slots → now (scratch .exit) ≡ put (now (scratch .entry)) 0 (opened (slotKey «key_len» (now (ring .entry)) (r .slot)) (now (sealed .entry)))) ⌝ }
-    ensures rest { λ _. ⌜ drop (length (now (sealed .entry)) - 16) (now (scratch .exit)) ≡ drop (length (now (sealed .entry)) - 16) (now (scratch .entry)) ⌝ }
+    requires { ⌜ HasSlots «key_len» (now ring) slots × Walkable (now header) (now lens) × Openable (now sealed) (now scratch) ⌝ }
+    ensures { λ r. ⌜ TriesSlots «key_len» slots (now (ring .entry)) (stringsIn header lens) (now (sealed .entry)) scratch r ⌝ }
 {
     let engine = aes::engine();
     let mut left = slots;
@@ -86,7 +78,8 @@ fn given_slot(found: Found, slots: usize) -> usize
     0
 }
 
-// Opens a sealed string under the first key of a ring that opens it: the ring is one to four keys of key_len bytes, tried from slot 0.
+// Opens a sealed string under the first key of a ring that opens it.
+// The ring is one to four keys of key_len bytes, tried from slot 0.
 pub fn open_ring(
     key_len: usize,
     ring: &[u8],

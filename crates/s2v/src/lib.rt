@@ -3,12 +3,12 @@ ghost use mathlib.Core.Path.{_≡_};
 ghost use Prim.Native.Nat.{_+_, _≤_, _<_, _^_};
 ghost use lib.ListN.{length};
 ghost use Rattle.aes.specs.Cipher.{cipher};
-ghost use Rattle.aes.specs.Engine.{Ready};
+ghost use Rattle.aes.specs.Engine.{CanEncrypt};
 ghost use Rattle.aes.specs.Work.{Reports};
 ghost use Rattle.octets.specs.Octets.{xors};
-ghost use Rattle.cmac.specs.Cmac.{double, pad, cmacFrom, cmacWork, cmac};
-ghost use Rattle.header.specs.Header.{total, strings};
-ghost use Rattle.s2v.specs.S2v.{xorend, tailLength, absorbStrings, absorbWork, headerResult, headerWork, tagFrom, tagFromWork, tag};
+ghost use Rattle.cmac.specs.Cmac.{double, pad, cmacWork, IsCmacFrom};
+ghost use Rattle.header.specs.Header.{total, stringsIn, Walkable};
+ghost use Rattle.s2v.specs.S2v.{xorend, tailLength, absorbOne, IsAbsorbed, IsHeaderResult, IsTagFrom, tagFromWork, tag};
 use aes::Counted;
 use aes::Engine;
 use aes::RoundKeys;
@@ -24,8 +24,8 @@ fn absorb_string(
     d: Counted,
     s: &[u8],
 ) -> Counted
-    requires { ⌜ Ready (now engine) × (width ≤ 32) × (d .work ≤ 2 ^ 62) ⌝ }
-    ensures { λ r. ⌜ Reports (xors (double (d .block)) (cmac (cipher width (now (keys .entry))) k (now (s .entry)))) (d .work + cmacWork (now (s .entry))) r ⌝ }
+    requires { ⌜ CanEncrypt (now engine) width × (d .work ≤ 2 ^ 62) ⌝ }
+    ensures { λ r. ⌜ Reports (absorbOne (cipher width (now (keys .entry))) k (d .block) (now (s .entry))) (d .work + cmacWork (now (s .entry))) r ⌝ }
 {
     let before = d.block;
     let mac = cmac::cmac_from(engine, width, keys, k, [0u8; 16], s);
@@ -36,7 +36,8 @@ fn absorb_string(
     }
 }
 
-// D from d on over the strings of a header list, and the work from d's on: one reader is made at the front and moved on over each string.
+// D from d on over the strings of a header list, and the work from d's on:
+// one reader is made at the front and moved on over each string.
 pub fn absorb_strings(
     engine: &Engine,
     width: usize,
@@ -46,8 +47,8 @@ pub fn absorb_strings(
     bytes: &[u8],
     lens: &[u32],
 ) -> Counted
-    requires { ⌜ Ready (now engine) × (width ≤ 32) × (total (now lens) ≤ length (now bytes)) × (d .work + length (now lens) ≤ 127) ⌝ }
-    ensures { λ r. ⌜ Reports (absorbStrings (cipher width (now (keys .entry))) k (d .block) (strings (now (bytes .entry)) (now (lens .entry)))) (absorbWork (d .work) (strings (now (bytes .entry)) (now (lens .entry)))) r ⌝ }
+    requires { ⌜ CanEncrypt (now engine) width × (total (now lens) ≤ length (now bytes)) × (d .work + length (now lens) ≤ 127) ⌝ }
+    ensures { λ r. ⌜ IsAbsorbed (cipher width (now (keys .entry))) k d (stringsIn bytes lens) r ⌝ }
 {
     let mut b = d;
     let mut reader = header::reader::new(bytes, 0);
@@ -70,8 +71,8 @@ pub fn make_header_result(
     bytes: &[u8],
     lens: &[u32],
 ) -> Counted
-    requires { ⌜ Ready (now engine) × (width ≤ 32) × (total (now lens) ≤ length (now bytes)) × (length (now lens) ≤ 126) ⌝ }
-    ensures { λ r. ⌜ Reports (headerResult (cipher width (now (keys .entry))) k (strings (now (bytes .entry)) (now (lens .entry)))) (headerWork (strings (now (bytes .entry)) (now (lens .entry)))) r ⌝ }
+    requires { ⌜ CanEncrypt (now engine) width × Walkable (now bytes) (now lens) ⌝ }
+    ensures { λ r. ⌜ IsHeaderResult (cipher width (now (keys .entry))) k (stringsIn bytes lens) r ⌝ }
 {
     let zero = [0u8; 16];
     let d = cmac::cmac_from(engine, width, keys, k, zero, &zero);
@@ -98,8 +99,8 @@ fn tag_short(
     c: Block,
     p: &[u8],
 ) -> Counted
-    requires { ⌜ Ready (now engine) × (width ≤ 32) × (length (now p) < 16) ⌝ }
-    ensures { λ r. ⌜ Reports (cmacFrom (cipher width (now (keys .entry))) k c (xors (double d) (pad (now (p .entry))))) (cmacWork (xors (double d) (pad (now (p .entry))))) r ⌝ }
+    requires { ⌜ CanEncrypt (now engine) width × (length (now p) < 16) ⌝ }
+    ensures { λ r. ⌜ IsCmacFrom (cipher width (now (keys .entry))) k c (xors (double d) (pad (now (p .entry)))) r ⌝ }
 {
     let t = cmac::xor_padded(cmac::double(d), p);
     cmac::cmac_from(engine, width, keys, k, c, &t)
@@ -115,8 +116,8 @@ fn tag_long(
     c: Block,
     p: &[u8],
 ) -> Counted
-    requires { ⌜ Ready (now engine) × (width ≤ 32) × (16 ≤ length (now p)) × (length (now p) < 32) ⌝ }
-    ensures { λ r. ⌜ Reports (cmacFrom (cipher width (now (keys .entry))) k c (xorend (now (p .entry)) d)) (cmacWork (xorend (now (p .entry)) d)) r ⌝ }
+    requires { ⌜ CanEncrypt (now engine) width × (16 ≤ length (now p)) × (length (now p) < 32) ⌝ }
+    ensures { λ r. ⌜ IsCmacFrom (cipher width (now (keys .entry))) k c (xorend (now (p .entry)) d) r ⌝ }
 {
     let n = p.len();
     let at = n - 16;
@@ -136,8 +137,8 @@ pub fn tag_from(
     c: Block,
     p: &[u8],
 ) -> Counted
-    requires { ⌜ Ready (now engine) × (width ≤ 32) × (length (now p) < 32) ⌝ }
-    ensures { λ r. ⌜ Reports (tagFrom (cipher width (now (keys .entry))) k d c (now (p .entry))) (tagFromWork d (now (p .entry))) r ⌝ }
+    requires { ⌜ CanEncrypt (now engine) width × (length (now p) < 32) ⌝ }
+    ensures { λ r. ⌜ IsTagFrom (cipher width (now (keys .entry))) k d c (now (p .entry)) r ⌝ }
 {
     if p.len() < 16 {
         return tag_short(engine, width, keys, k, d, c, p);
@@ -154,7 +155,7 @@ pub fn tag(
     d: Block,
     p: &[u8],
 ) -> Counted
-    requires { ⌜ Ready (now engine) × (width ≤ 32) ⌝ }
+    requires { ⌜ CanEncrypt (now engine) width ⌝ }
     ensures { λ r. ⌜ Reports (tag (cipher width (now (keys .entry))) k d (now (p .entry))) (tagFromWork d (now (p .entry))) r ⌝ }
 {
     let n = p.len();

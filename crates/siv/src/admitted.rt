@@ -3,15 +3,14 @@ ghost use mathlib.Core.Path.{_≡_};
 ghost use mathlib.Core.Bool.{true, cond};
 ghost use Prim.Native.Nat.{ℕ, _+_, _≤_};
 ghost use lib.ListN.{length, take, replicate};
-ghost use Rattle.octets.specs.Octets.{put};
+ghost use Rattle.octets.specs.Octets.{Writes};
 ghost use Rattle.aes.specs.Cipher.{cipher};
-ghost use Rattle.aes.specs.Engine.{Ready};
-ghost use Rattle.aes.specs.Work.{Reports};
-ghost use Rattle.header.specs.Header.{total, strings};
-ghost use Rattle.s2v.specs.S2v.{s2v, s2vWork};
+ghost use Rattle.aes.specs.Engine.{Ready, CanEncrypt};
+ghost use Rattle.header.specs.Header.{stringsIn, Walkable};
+ghost use Rattle.s2v.specs.S2v.{IsS2v};
 ghost use Rattle.answers.specs.Answer.{outcomeOf, success, forged};
 ghost use Rattle.whole.specs.Calls.{isKeyLength, scratchNeed, Usable};
-ghost use Rattle.whole.specs.Siv.{tagOf, tagOfWork, streamed, streamedWork, sealed, sealedWork, opened, genuine, genuineWork};
+ghost use Rattle.whole.specs.Siv.{IsTag, streamed, streamedWork, sealed, sealedWork, Decrypts, Openable};
 use admission::TAG_LEN;
 use aes::Counted;
 use aes::Engine;
@@ -19,12 +18,7 @@ use aes::RoundKeys;
 use answers::Answer;
 use answers::Refusal;
 use octets::Block;
-
-// Whether a string is genuine, and the work that it took to tell.
-pub struct Verdict {
-    pub genuine: bool,
-    pub work: usize,
-}
+use whole::Verdict;
 
 // S2V under round keys.
 fn tag_under(
@@ -35,8 +29,8 @@ fn tag_under(
     lens: &[u32],
     p: &[u8],
 ) -> Counted
-    requires { ⌜ Ready (now engine) × (width ≤ 32) × (total (now lens) ≤ length (now header)) × (length (now lens) ≤ 126) ⌝ }
-    ensures { λ r. ⌜ Reports (s2v (cipher width (now (keys .entry))) (strings (now (header .entry)) (now (lens .entry))) (now (p .entry))) (s2vWork (cipher width (now (keys .entry))) (strings (now (header .entry)) (now (lens .entry))) (now (p .entry))) r ⌝ }
+    requires { ⌜ CanEncrypt (now engine) width × Walkable (now header) (now lens) ⌝ }
+    ensures { λ r. ⌜ IsS2v (cipher width (now (keys .entry))) (stringsIn header lens) (now (p .entry)) r ⌝ }
 {
     let zero = cmac::zero_cipher(engine, width, keys);
     let l = zero.block;
@@ -54,7 +48,7 @@ fn tag_under(
 // The tag of a header list and a plaintext.
 fn tag_of(engine: &Engine, key: &[u8], header: &[u8], lens: &[u32], p: &[u8]) -> Counted
     requires { ⌜ Ready (now engine) × Usable (now key) (now header) (now lens) ⌝ }
-    ensures { λ r. ⌜ Reports (tagOf (now (key .entry)) (strings (now (header .entry)) (now (lens .entry))) (now (p .entry))) (tagOfWork (now (key .entry)) (strings (now (header .entry)) (now (lens .entry))) (now (p .entry))) r ⌝ }
+    ensures { λ r. ⌜ IsTag (now (key .entry)) (stringsIn header lens) (now (p .entry)) r ⌝ }
 {
     let width = key.len() / 2;
     let keys = aes::round_keys(engine, &key[0..width]);
@@ -62,10 +56,17 @@ fn tag_of(engine: &Engine, key: &[u8], header: &[u8], lens: &[u32], p: &[u8]) ->
 }
 
 // Writes src, xored with the key stream of a tag, at a place of a slice; gives the work.
-fn xor_key_stream(engine: &Engine, key: &[u8], v: Block, src: &[u8], dst: &mut [u8], at: usize) -> usize
+fn xor_key_stream(
+    engine: &Engine,
+    key: &[u8],
+    v: Block,
+    src: &[u8],
+    dst: &mut [u8],
+    at: usize,
+) -> usize
     requires { ⌜ Ready (now engine) × (isKeyLength (length (now key)) ≡ true) × (at + length (now src) ≤ length (now dst)) ⌝ }
     ensures work { λ r. ⌜ r ≡ streamedWork (now (src .entry)) ⌝ }
-    ensures text { λ _. ⌜ now (dst .exit) ≡ put (now (dst .entry)) at (streamed (now (key .entry)) v (now (src .entry))) ⌝ }
+    ensures text { λ _. ⌜ Writes dst at (streamed (now (key .entry)) v (now (src .entry))) ⌝ }
 {
     let width = key.len() / 2;
     let keys = aes::round_keys(engine, &key[width..]);
@@ -82,8 +83,8 @@ pub(crate) fn seal_admitted(
     output: &mut [u8],
 ) -> usize
     requires { ⌜ Usable (now key) (now header) (now lens) × (16 + length (now input) ≤ length (now output)) ⌝ }
-    ensures work { λ r. ⌜ r ≡ sealedWork (now (key .entry)) (strings (now (header .entry)) (now (lens .entry))) (now (input .entry)) ⌝ }
-    ensures sealed { λ _. ⌜ now (output .exit) ≡ put (now (output .entry)) 0 (sealed (now (key .entry)) (strings (now (header .entry)) (now (lens .entry))) (now (input .entry))) ⌝ }
+    ensures work { λ r. ⌜ r ≡ sealedWork (now (key .entry)) (stringsIn header lens) (now (input .entry)) ⌝ }
+    ensures sealed { λ _. ⌜ Writes output 0 (sealed (now (key .entry)) (stringsIn header lens) (now (input .entry))) ⌝ }
 {
     let engine = aes::engine();
     let tag = tag_of(&engine, key, header, lens, input);
@@ -101,10 +102,8 @@ pub fn decrypt_and_verify(
     sealed: &[u8],
     scratch: &mut [u8],
 ) -> Verdict
-    requires { ⌜ Ready (now engine) × Usable (now key) (now header) (now lens) × (16 ≤ length (now sealed)) × (length (now sealed) ≤ 16 + length (now scratch)) ⌝ }
-    ensures judged { λ r. ⌜ r .genuine ≡ genuine (now (key .entry)) (strings (now (header .entry)) (now (lens .entry))) (now (sealed .entry)) ⌝ }
-    ensures work { λ r. ⌜ r .work ≡ genuineWork (now (key .entry)) (strings (now (header .entry)) (now (lens .entry))) (now (sealed .entry)) ⌝ }
-    ensures text { λ _. ⌜ now (scratch .exit) ≡ put (now (scratch .entry)) 0 (opened (now (key .entry)) (now (sealed .entry))) ⌝ }
+    requires { ⌜ Ready (now engine) × Usable (now key) (now header) (now lens) × Openable (now sealed) (now scratch) ⌝ }
+    ensures { λ r. ⌜ Decrypts (now (key .entry)) (stringsIn header lens) (now (sealed .entry)) scratch r ⌝ }
 {
     let v = octets::load(sealed, 0);
     let n = sealed.len() - TAG_LEN;
@@ -117,12 +116,13 @@ pub fn decrypt_and_verify(
     }
 }
 
-// Ends an opening of n bytes: what scratch has of them to the front of output if it is genuine, or zeros; then zeros over the scratch.
+// Ends an opening of n bytes: to the front of output what scratch has of them if it is genuine, or zeros.
+// Then zeros over the scratch.
 pub fn release_or_wipe(genuine: bool, n: usize, output: &mut [u8], scratch: &mut [u8]) -> Answer
     requires { ⌜ (n ≤ length (now output)) × (scratchNeed n ≤ length (now scratch)) ⌝ }
     ensures outcome { λ r. ⌜ ((w : ℕ) → outcomeOf r w ≡ cond genuine (success n w) (forged w)) ⌝ }
-    ensures output { λ _. ⌜ now (output .exit) ≡ put (now (output .entry)) 0 (cond genuine (take n (now (scratch .entry))) (replicate n 0)) ⌝ }
-    ensures scratch { λ _. ⌜ now (scratch .exit) ≡ put (now (scratch .entry)) 0 (replicate (scratchNeed n) 0) ⌝ }
+    ensures output { λ _. ⌜ Writes output 0 (cond genuine (take n (now (scratch .entry))) (replicate n 0)) ⌝ }
+    ensures scratch { λ _. ⌜ Writes scratch 0 (replicate (scratchNeed n) 0) ⌝ }
 {
     if genuine {
         octets::copy_at(output, 0, &scratch[0..n]);

@@ -1,4 +1,5 @@
-// RFC 5297's appendix A sealed and opened, under the example's key and under a ring of both keys, and each sealed string with one bit of each byte changed in turn.
+// RFC 5297's appendix A sealed and opened, under the example's key and under a ring of both keys,
+// and each sealed string with one bit of each byte changed in turn.
 ghost use Prim.Native.Nat.{_≤_, _<_};
 ghost use lib.ListN.{length};
 use answers::Answer;

@@ -2,12 +2,12 @@
 -- Assumes nothing.
 use mathlib.Core.Path.{_≡_, refl, ap, ap₂, sym, subst, _∙_}
 use mathlib.Core.Bool.{Bool, true, false, not, cond, _&&_, and-eq-true-iff}
-use mathlib.Core.List.{List, [], _∷_, _++_, append-assoc}
+use mathlib.Core.List.{List, [], _++_, append-assoc}
 use Prim.Native.Nat.{ℕ, _+_, _-_, _≤_}
 use native.Mathlib.Decide.{ℕ-discrete}
 use native.Mathlib.Omega.{arith}
 use lib.Dec.{eqb, ltb}
-use lib.ListN.{length, take, drop, replicate}
+use lib.ListN.{length, take, drop}
 use lib.Seq.{take-all, length-take-le, take-at, drop-at}
 use borrow.Author.Tests.{eqb-true, eq-eqb, ne-eqb, ltb-false, not-true, not-false}
 use Rattle.octets.specs.Octets.{put, part, same}
@@ -20,21 +20,18 @@ use Rattle.s2v.specs.S2v.{tailLength}
 use Rattle.s2v.proofs.Laws.{tail}
 use Rattle.keystream.proofs.Laws.{length-xorPiece}
 use Rattle.answers.specs.declared.Answer.{Answer}
-use Rattle.answers.specs.declared.Answer.the-variants.{Ok, Refused}
-use Rattle.answers.specs.declared.Refusal.the-variants.{Forged}
-use Rattle.answers.specs.Answer.{Outcome, Row, row, first, outcomeOf, success, refusal, forged}
-use Rattle.answers.proofs.Laws.{lacks, outcome-number, outcome-work, not-due, first-not, first-pass, first-stop, first-append}
+use Rattle.answers.specs.Answer.{Outcome, Row, first, settle, forgedOr, outcomeOf, refusal}
+use Rattle.answers.proofs.Laws.{IsRefused, due, lacks, outcome-number, outcome-work, not-due, first-append, settle-complete, settle-refused, settle-forged, settle-unread, by-complete, by-refusal, forged-stop, forged-test, rows-not-8}
 use Rattle.tail.specs.declared.Absorbed.{Absorbed}
 use Rattle.tail.specs.Tail.{AfterPiece}
 use Rattle.whole.specs.Calls.{limit}
 use Rattle.head.specs.declared.Head.{Head}
 use Rattle.head.specs.declared.Made.{Made}
-use Rattle.head.specs.Head.{MakeResult, DidMake, settleHead}
-use Rattle.head.proofs.Laws.{settle-made, settle-refused}
+use Rattle.head.specs.Head.{MakeResult, DidMake, madeHead, refusedHead}
 use Rattle.stream.specs.declared.Step.{Step}
 use Rattle.stream.specs.declared.Stream.{Stream}
-use Rattle.stream.specs.State.{writtenLimit, keptFits, fits, Absorbs, added, addedWork, ended, tagOfState, tagOfStateWork, streamedAt}
-use Rattle.stream.specs.Steps.{StepResult, DidStep, refusedStep, settle, beginBy, tagRows, finishStep, addRows, turnRows, writeRows, feedRows, finishRows, finishTable}
+use Rattle.stream.specs.State.{writtenLimit, keptFits, fits, Absorbs, added, addedWork, ended, start, tagOfState, tagOfStateWork, streamedAt}
+use Rattle.stream.specs.Steps.{StepResult, DidStep, doneStep, refusedStep, forgedStep, beginBy, tagRows, finishStep, addRows, turnRows, writeRows, feedRows, finishRows, finishTable}
 
 -- ---- what refusal 9 judges
 
@@ -68,21 +65,18 @@ judged-by wanted s rest e o = o ∙ ap (λ (f : Bool). refusal (cond (not f) 9 r
 
 -- ---- the calls' results
 
-module _ (test : Bool) (a b : StepResult) {step : Step} {last : List ℕ} where
-  -- a result that a test picks, from the one that is picked
-  picked : test ≡ true → DidStep a step last → DidStep (cond test a b) step last
-  picked e d = subst (λ (t : Bool). DidStep (cond t a b) step last) (sym e) d
+module _ (n : ℕ) (result : StepResult) (s : Stream) (output : List ℕ) {step : Step} {last : List ℕ} where
+  pub refused : (a : Answer) → IsRefused a → outcomeOf a 0 ≡ refusal n → DidStep (record { outcome = outcomeOf a 0; state = s; output = output }) step last
+      → DidStep (settle n result (λ m. refusedStep m s output)) step last
+  refused a k e d = by-refusal n result (λ o. record { outcome = o; state = s; output = output }) (λ (r : StepResult). DidStep r step last) a k e d
 
-  picked-else : test ≡ false → DidStep b step last → DidStep (cond test a b) step last
-  picked-else e d = subst (λ (t : Bool). DidStep (cond t a b) step last) (sym e) d
+  pub done : n ≡ 0 → DidStep result step last → DidStep (settle n result (λ m. refusedStep m s output)) step last
+  done e d = by-complete n result (λ m. refusedStep m s output) (λ (r : StepResult). DidStep r step last) e d
 
-pub refused : (a : Answer) (n : ℕ) (done : StepResult) (s : Stream) (output : List ℕ) → (outcomeOf a 0 .number ≡ 0 → ⊥) → outcomeOf a 0 ≡ refusal n
-    → DidStep (settle n done s output) (record { answer = a; work = 0; state = s }) output
-refused a n done s output k e =
-    picked-else (eqb n 0) done (refusedStep n s output) (ne-eqb n 0 (λ z. k (ap (λ (o : Outcome). o .number) e ∙ z))) (record { outcome = e; state = refl; output = refl })
-
-pub done : (n : ℕ) (result : StepResult) (s : Stream) (output : List ℕ) {step : Step} {last : List ℕ} → n ≡ 0 → DidStep result step last → DidStep (settle n result s output) step last
-done n result s output e d = picked (eqb n 0) _ _ (eq-eqb n 0 e) d
+-- a state that is another is handed back as that
+pub in-state : {o : Outcome} {s t : Stream} {output last : List ℕ} {step : Step} → s ≡ t → DidStep (record { outcome = o; state = s; output = output }) step last
+    → DidStep (record { outcome = o; state = t; output = output }) step last
+in-state e d = record { outcome = d .outcome; state = d .state ∙ e; output = d .output }
 
 -- ---- what the refusals leave
 
@@ -148,56 +142,47 @@ read-back l at n p e long room =
     ∙ take-at p (drop (at + length p) l) n long
 
 module _ (s : Stream) (output : List ℕ) where
-  judged : List Row
+  abbrev judged : List Row
   judged = finishRows s (length output)
 
-  forgery : List Row
-  forgery = row 8 (not (same (tagOfState s) (s .v))) ∷ []
+  abbrev test : Bool
+  test = same (tagOfState s) (s .v)
 
-  number : ℕ
-  number = first (finishTable s output)
+  abbrev complete : StepResult
+  complete = doneStep (s .total) (tagOfStateWork s) ended output
 
-  pub finish-refused : (a : Answer) → (outcomeOf a 0 .number ≡ 0 → ⊥) → outcomeOf a 0 ≡ refusal (first (finishRows s (length output)))
-      → DidStep (finishStep s output) (record { answer = a; work = 0; state = s }) output
-  unfolding finishStep judged forgery number
-  finish-refused a k e =
-      let due : first judged ≡ 0 → ⊥ = λ z. k (ap (λ (o : Outcome). o .number) e ∙ z) in
-      let stops : number ≡ first judged = first-stop judged forgery due in
-      let off8 : eqb number 8 ≡ false = ne-eqb number 8 (λ z. first-not 8 judged refl (λ z. omega arith) (sym stops ∙ z)) in
-      picked-else (eqb number 8) _ _ off8 (refused a number _ s output k (e ∙ ap refusal (sym stops)))
+  pub finish-refused : (a : Answer) {step : Step} → IsRefused a → outcomeOf a 0 ≡ refusal (first (finishRows s (length output)))
+      → DidStep (record { outcome = outcomeOf a 0; state = s; output = output }) step output → DidStep (finishStep s output) step output
+  unfolding finishStep
+  finish-refused a {step} k e d =
+      let some : first judged ≡ 0 → ⊥ = due a (first judged) k e in
+      let stops = forged-stop judged test refl refl some in
+      let result = settle-unread _ complete (forgedStep s output) (λ n. refusedStep n s output) (λ z. some (sym stops ∙ z)) (λ z. rows-not-8 judged test refl refl (sym stops ∙ z)) in
+      subst (λ (r : StepResult). DidStep r step output) (ap (λ (o : Outcome). record { outcome = o; state = s; output = output }) (e ∙ ap refusal (sym stops)) ∙ sym result) d
 
-  module _ {state : Stream} (none : first (finishRows s (length output)) ≡ 0) (ends : state ≡ ended) where
-    by-tag : number ≡ cond (not (same (tagOfState s) (s .v))) 8 0
-    unfolding judged forgery number
-    by-tag = first-pass judged forgery refl none
+  module _ (none : first (finishRows s (length output)) ≡ 0) where
+    by-tag : (t : Bool) → test ≡ t → first (finishTable s output) ≡ cond (not t) 8 0
+    by-tag t g = forged-test judged test refl refl none ∙ ap (λ (b : Bool). cond (not b) 8 0) g
 
-    pub finish-done : (w : ℕ) → same (tagOfState s) (s .v) ≡ true → w ≡ tagOfStateWork s → DidStep (finishStep s output) (record { answer = Ok (s .total); work = w; state = state }) output
-    unfolding finishStep number
-    finish-done w g e =
-        let zero : number ≡ 0 = by-tag ∙ ap (λ (t : Bool). cond (not t) 8 0) g in
-        record { outcome = simp zero (ap (success (s .total)) e); state = simp zero ends; output = simp zero }
+    pub finish-done : {step : Step} {last : List ℕ} → same (tagOfState s) (s .v) ≡ true → DidStep (doneStep (s .total) (tagOfStateWork s) ended output) step last → DidStep (finishStep s output) step last
+    unfolding finishStep
+    finish-done {step} {last} g d =
+        by-complete _ complete (forgedOr (forgedStep s output) (λ n. refusedStep n s output)) (λ (r : StepResult). DidStep r step last) (by-tag true g) d
 
-    pub finish-forged : (w : ℕ) (last : List ℕ) → same (tagOfState s) (s .v) ≡ false → w ≡ tagOfStateWork s → last ≡ put output 0 (replicate (s .total) 0)
-        → DidStep (finishStep s output) (record { answer = Refused Forged; work = w; state = state }) last
-    unfolding finishStep number
-    finish-forged w last g e p =
-        let eight : number ≡ 8 = by-tag ∙ ap (λ (t : Bool). cond (not t) 8 0) g in
-        record { outcome = simp eight (ap forged e); state = simp eight ends; output = simp eight p }
+    pub finish-forged : {step : Step} {last : List ℕ} → same (tagOfState s) (s .v) ≡ false → DidStep (forgedStep s output) step last → DidStep (finishStep s output) step last
+    unfolding finishStep
+    finish-forged {step} {last} g d =
+        subst (λ (r : StepResult). DidStep r step last) (sym (settle-forged _ complete (forgedStep s output) (λ n. refusedStep n s output) (by-tag false g))) d
 
 -- ---- begin
 
-pub begin-refused : (a : Answer) (n : ℕ) (result : StepResult) {state : Stream} → (outcomeOf a 0 .number ≡ 0 → ⊥) → outcomeOf a 0 ≡ refusal n → state ≡ ended
-    → DidStep (settle n result ended []) (record { answer = a; work = 0; state = state }) []
-begin-refused a n result {state} k e ends =
-    subst (λ (s : Stream). DidStep (settle n result ended []) (record { answer = a; work = 0; state = s }) []) (sym ends) (refused a n result ended [] k e)
-
 -- a begin with what making a head gave is the begin with the head, its work and its rows' number
-begun-made : (n w : ℕ) (h : Head) (made : Made) (stage : ℕ) (v : List ℕ) → DidMake (settleHead n w h) made
+begun-made : (n w : ℕ) (h : Head) (made : Made) (stage : ℕ) (v : List ℕ) → DidMake (settle n (madeHead w h) refusedHead) made
     → beginBy (outcomeOf (made .answer) 0 .number) (made .work) (made .head) stage v ≡ beginBy n w h stage v
 begun-made n w h made stage v d = go (ℕ-discrete n 0)
   where
     -- by what the head settles to
-    by : (r : MakeResult) → settleHead n w h ≡ r
+    by : (r : MakeResult) → settle n (madeHead w h) refusedHead ≡ r
         → beginBy (outcomeOf (made .answer) 0 .number) (made .work) (made .head) stage v ≡ beginBy (r .outcome .number) (r .outcome .work) (r .head) stage v
     by r e =
         let outcome : outcomeOf (made .answer) (made .work) ≡ r .outcome = d .outcome ∙ ap (λ (x : MakeResult). x .outcome) e in
@@ -206,10 +191,10 @@ begun-made n w h made stage v d = go (ℕ-discrete n 0)
         ∙ ap (λ (g : Head). beginBy (r .outcome .number) (r .outcome .work) g stage v) (d .head ∙ ap (λ (x : MakeResult). x .head) e)
 
     go : Dec (n ≡ 0) → beginBy (outcomeOf (made .answer) 0 .number) (made .work) (made .head) stage v ≡ beginBy n w h stage v
-    go (yes z) = by _ (settle-made n w h z) ∙ ap (λ (m : ℕ). beginBy m w h stage v) (sym z)
-    go (no z) = by _ (settle-refused n w h z) ∙ simp (ne-eqb n 0 z)
+    go (yes z) = by _ (settle-complete n (madeHead w h) refusedHead z) ∙ ap (λ (m : ℕ). beginBy m w h stage v) (sym z)
+    go (no z) = by _ (settle-refused n (madeHead w h) refusedHead z) ∙ simp (ne-eqb n 0 z)
 
-pub begins : (n w : ℕ) (h : Head) (made : Made) (stage : ℕ) (v : List ℕ) {step : Step} → DidMake (settleHead n w h) made
+pub begins : (n w : ℕ) (h : Head) (made : Made) (stage : ℕ) (v : List ℕ) {step : Step} → DidMake (settle n (madeHead w h) refusedHead) made
     → DidStep (beginBy (outcomeOf (made .answer) 0 .number) (made .work) (made .head) stage v) step [] → DidStep (beginBy n w h stage v) step []
 begins n w h made stage v {step} m d = subst (λ (r : StepResult). DidStep r step []) (begun-made n w h made stage v m) d
 
@@ -220,7 +205,7 @@ module _ (rows : List Row) (present : lacks 0 rows ≡ true) (w : ℕ) (h : Head
   by-length t e = first-append rows (tagRows (length tag)) present ∙ ap (λ (u : Bool). cond (eqb (first rows) 0) (cond (not u) 5 0) (first rows)) e
 
   -- a tag of 16 bytes leaves the number to the rows before it
-  pub begins-tagged : (made : Made) (v : List ℕ) {step : Step} → length tag ≡ 16 → v ≡ part tag 0 16 → DidMake (settleHead (first rows) w h) made
+  pub begins-tagged : (made : Made) (v : List ℕ) {step : Step} → length tag ≡ 16 → v ≡ part tag 0 16 → DidMake (settle (first rows) (madeHead w h) refusedHead) made
       → DidStep (beginBy (outcomeOf (made .answer) 0 .number) (made .work) (made .head) 3 v) step [] → DidStep (beginBy (first (rows ++ tagRows (length tag))) w h 3 tag) step []
   begins-tagged made v {step} e p m d =
       let whole : part tag 0 16 ≡ tag = take-all 16 tag (omega arith) in
@@ -237,9 +222,11 @@ module _ (rows : List Row) (present : lacks 0 rows ≡ true) (w : ℕ) (h : Head
       → DidStep (beginBy (first (rows ++ tagRows (length tag))) w h 3 tag) step []
   begins-untagged before {step} e o d =
       let number : outcomeOf before 0 .number ≡ first rows = ap (λ (x : Outcome). x .number) o in
-      picked-else (eqb (first (rows ++ tagRows (length tag))) 0) _ _ (ap (λ (m : ℕ). eqb m 0) (by-length false e) ∙ due (eqb (first rows) 0) refl)
-      (subst (λ (m : ℕ). DidStep (refusedStep m ended []) step []) (ap (λ (m : ℕ). cond (eqb m 0) 5 m) number ∙ sym (by-length false e)) d)
+      let same-number = ap (λ (m : ℕ). cond (eqb m 0) 5 m) number ∙ sym (by-length false e) in
+      subst (λ (r : StepResult). DidStep r step [])
+      (ap (λ (m : ℕ). refusedStep m ended []) same-number
+      ∙ sym (settle-refused _ (doneStep 0 w (start h 3 tag) []) (λ m. refusedStep m ended []) (λ z. some (ℕ-discrete (first rows) 0) (sym (by-length false e) ∙ z)))) d
     where
-      due : (t : Bool) → eqb (first rows) 0 ≡ t → eqb (cond t 5 (first rows)) 0 ≡ false
-      due true z = refl
-      due false z = z
+      some : Dec (first rows ≡ 0) → settle (first rows) 5 (λ m. m) ≡ 0 → ⊥
+      some (yes y) z = omega (arith, sym (settle-complete (first rows) 5 (λ m. m) y) ∙ z)
+      some (no y) z = y (sym (settle-refused (first rows) 5 (λ m. m) y) ∙ z)

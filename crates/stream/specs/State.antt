@@ -1,4 +1,5 @@
--- The stream state: which ones a call takes, and what a piece makes of one. Document 01, "Piecewise calls", and slips 4 and 5 of document 02.
+-- The stream state: which ones a call takes, and what a piece makes of one.
+-- Document 01, "Piecewise calls", and slips 4 and 5 of document 02.
 -- Assumes nothing.
 use mathlib.Core.Path.{_≡_}
 use mathlib.Core.Bool.{Bool, not, cond, _&&_, _||_}
@@ -68,7 +69,8 @@ streamPlace stage s = cond (eqb stage 2) (s .written) (cond (eqb stage 3) (s .to
 unfoldable pub keptFits : ℕ → Stream → Bool
 keptFits stage s = not (eqb (streamPlace stage s % 16) 0) || allZero (s .kept)
 
--- what refusal 9 judges, for a call that wants a stage: the stage, the key width, total and written within their limits, the tail's length by its rule, the kept block, and the unused bytes of the tail zero
+-- what refusal 9 judges, for a call that wants a stage: the stage, the key width, total and written within
+-- their limits, the tail's length by its rule, the kept block, and the unused bytes of the tail zero
 unfoldable pub fits : ℕ → Stream → Bool
 fits wanted s =
     eqb (s .stage) wanted
@@ -83,24 +85,36 @@ fits wanted s =
 abbrev pub usedTail : Stream → List ℕ
 usedTail s = take (tailLength (s .total)) (s .tail)
 
--- a state with another chain, total, and tail with its length, and nothing else changed
-abbrev pub stateWith : Stream → List ℕ → ℕ → ℕ → List ℕ → Stream
-stateWith s c total len t =
+-- a state with other values in what calls change; width, round keys, L and D stay as its begin set them
+abbrev pub onward : Stream → ℕ → List ℕ → List ℕ → ℕ → List ℕ → ℕ → ℕ → List ℕ → Stream
+onward s stage v kept written chain total len tail =
     record {
-      stage = s .stage;
+      stage = stage;
       width = s .width;
       «mac_keys» = s .«mac_keys»;
       «ctr_keys» = s .«ctr_keys»;
       l = s .l;
       d = s .d;
-      chain = c;
-      v = s .v;
-      kept = s .kept;
+      chain = chain;
+      v = v;
+      kept = kept;
       total = total;
-      written = s .written;
+      written = written;
       «tail_len» = len;
-      tail = t;
+      tail = tail;
     }
+
+-- another chain, total, and tail with its length, and nothing else changed
+abbrev pub stateWith : Stream → List ℕ → ℕ → ℕ → List ℕ → Stream
+stateWith s chain total len tail = onward s (s .stage) (s .v) (s .kept) (s .written) chain total len tail
+
+-- another kept block and number of bytes written, and nothing else changed
+abbrev pub streamedWith : Stream → List ℕ → ℕ → Stream
+streamedWith s kept written = onward s (s .stage) (s .v) kept written (s .chain) (s .total) (s .«tail_len») (s .tail)
+
+-- the state once V is known: stage 2 and V, and nothing else changed
+abbrev pub turned : Stream → List ℕ → Stream
+turned s v = onward s 2 v (s .kept) (s .written) (s .chain) (s .total) (s .«tail_len») (s .tail)
 
 -- the state with a piece of plaintext more: whole blocks go from the tail into the chain until a tail's length is left
 unfoldable pub added : Stream → List ℕ → Stream
@@ -133,22 +147,3 @@ streamedAt s place piece = xorPiece (cipher (s .width) (s .«ctr_keys»)) (s .v)
 -- the block that is kept then
 unfoldable pub keptAt : Stream → ℕ → ℕ → List ℕ
 keptAt s place n = keptAfter (cipher (s .width) (s .«ctr_keys»)) (s .v) (s .kept) place n
-
--- a state with another kept block and number of bytes written, and nothing else changed
-abbrev pub streamedWith : Stream → List ℕ → ℕ → Stream
-streamedWith s kept written =
-    record {
-      stage = s .stage;
-      width = s .width;
-      «mac_keys» = s .«mac_keys»;
-      «ctr_keys» = s .«ctr_keys»;
-      l = s .l;
-      d = s .d;
-      chain = s .chain;
-      v = s .v;
-      kept = kept;
-      total = s .total;
-      written = written;
-      «tail_len» = s .«tail_len»;
-      tail = s .tail;
-    }

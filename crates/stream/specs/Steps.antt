@@ -1,7 +1,8 @@
--- The piecewise calls on every state and input: number, length, work, the state after the call and the last contents of the lent output, from document 01 and slip 5 of document 02.
+-- The piecewise calls on every state and input: number, length, work,
+-- the state after the call and the last contents of the lent output, from document 01 and slip 5 of document 02.
 -- Assumes nothing.
 use mathlib.Core.Path.{_≡_}
-use mathlib.Core.Bool.{not, cond, _&&_}
+use mathlib.Core.Bool.{not, _&&_}
 use mathlib.Core.List.{List, [], _∷_, _++_}
 use Prim.Native.Nat.{ℕ, _+_}
 use lib.Dec.{eqb, ltb}
@@ -10,13 +11,13 @@ use Rattle.octets.specs.Octets.{put, same}
 use Rattle.cmac.specs.Cmac.{zeros}
 use Rattle.header.specs.Header.{strings}
 use Rattle.keystream.specs.Pieces.{pieceWork}
-use Rattle.answers.specs.Answer.{Outcome, success, refusal, forged, outcomeOf, Row, row, first}
+use Rattle.answers.specs.Answer.{Outcome, success, refusal, forged, outcomeOf, Row, row, first, settle, forgedOr}
 use Rattle.whole.specs.Calls.{limit, headerRows}
 use Rattle.head.specs.declared.Head.{Head}
 use Rattle.head.specs.Head.{headOf, headOfWork, extended, extendedWork, restRows}
 use Rattle.stream.specs.declared.Step.{Step}
 use Rattle.stream.specs.declared.Stream.{Stream}
-use Rattle.stream.specs.State.{ended, start, fits, added, addedWork, tagOfState, tagOfStateWork, streamedAt, keptAt, streamedWith}
+use Rattle.stream.specs.State.{ended, start, fits, added, addedWork, tagOfState, tagOfStateWork, streamedAt, keptAt, streamedWith, turned}
 
 -- everything that a call does; a call that is lent no output has the empty one
 pub record StepResult : Type 0 where
@@ -30,21 +31,18 @@ pub record DidStep (result : StepResult) (step : Step) (lastOutput : List ℕ) :
   pub state : step .state ≡ result .state
   pub output : lastOutput ≡ result .output
 
+-- success, and a refusal, with state and output
 abbrev pub doneStep : ℕ → ℕ → Stream → List ℕ → StepResult
 doneStep n w s output = record { outcome = success n w; state = s; output = output }
 
 abbrev pub refusedStep : ℕ → Stream → List ℕ → StepResult
 refusedStep n s output = record { outcome = refusal n; state = s; output = output }
 
--- the result of a call whose rows give a number: success, or the refusal with state and output as given
-abbrev pub settle : ℕ → StepResult → Stream → List ℕ → StepResult
-settle n done s output = cond (eqb n 0) done (refusedStep n s output)
-
 -- ---- begin
 
 -- a begin whose rows give a number: the state that a head starts, or the refusal with the ended state
 abbrev pub beginBy : ℕ → ℕ → Head → ℕ → List ℕ → StepResult
-beginBy n w h stage v = settle n (doneStep 0 w (start h stage v) []) ended []
+beginBy n w h stage v = settle n (doneStep 0 w (start h stage v) []) (λ m. refusedStep m ended [])
 
 -- a tag has 16 bytes
 abbrev pub tagRows : ℕ → List Row
@@ -77,40 +75,22 @@ addRows s piece = row 9 (not (fits 1 s)) ∷ row 4 (ltb limit (s .total + piece)
 
 -- add a piece
 unfoldable pub addStep : Stream → List ℕ → StepResult
-addStep s piece = settle (first (addRows s (length piece))) (doneStep 0 (addedWork s (length piece)) (added s piece) []) s []
+addStep s piece = settle (first (addRows s (length piece))) (doneStep 0 (addedWork s (length piece)) (added s piece) []) (λ n. refusedStep n s [])
 
 abbrev pub turnRows : Stream → ℕ → List Row
 turnRows s output = row 9 (not (fits 1 s)) ∷ row 6 (ltb output 16) ∷ []
-
--- the state once V is known: stage 2 and V, and no other field
-abbrev pub turned : Stream → List ℕ → Stream
-turned s v =
-    record {
-      stage = 2;
-      width = s .width;
-      «mac_keys» = s .«mac_keys»;
-      «ctr_keys» = s .«ctr_keys»;
-      l = s .l;
-      d = s .d;
-      chain = s .chain;
-      v = v;
-      kept = s .kept;
-      total = s .total;
-      written = s .written;
-      «tail_len» = s .«tail_len»;
-      tail = s .tail;
-    }
 
 -- turn: V goes to the first 16 bytes of the output
 unfoldable pub turnStep : Stream → List ℕ → StepResult
 turnStep s output =
     let v = tagOfState s in
-    settle (first (turnRows s (length output))) (doneStep 16 (tagOfStateWork s) (turned s v) (put output 0 v)) s output
+    settle (first (turnRows s (length output))) (doneStep 16 (tagOfStateWork s) (turned s v) (put output 0 v)) (λ n. refusedStep n s output)
 
 abbrev pub writeRows : Stream → ℕ → ℕ → List Row
 writeRows s piece output = row 9 (not (fits 2 s)) ∷ row 4 (ltb (s .total) (s .written + piece)) ∷ row 6 (ltb output piece) ∷ []
 
--- the state with n bytes more written: they are counted and the block that they leave is kept, and no other field changes
+-- the state with n bytes more written:
+-- they are counted and the block that they leave is kept, and no other field changes
 abbrev pub wrote : Stream → ℕ → Stream
 wrote s n = streamedWith s (keptAt s (s .written) n) (s .written + n)
 
@@ -119,14 +99,14 @@ unfoldable pub writeStep : Stream → List ℕ → List ℕ → StepResult
 writeStep s piece output =
     let c = streamedAt s (s .written) piece in
     settle (first (writeRows s (length piece) (length output)))
-    (doneStep (length piece) (pieceWork (s .written) (length piece)) (wrote s (length piece)) (put output 0 c)) s output
+    (doneStep (length piece) (pieceWork (s .written) (length piece)) (wrote s (length piece)) (put output 0 c)) (λ n. refusedStep n s output)
 
 abbrev pub closeRows : Stream → List Row
 closeRows s = row 9 (not (fits 2 s && not (ltb (s .written) (s .total)))) ∷ []
 
 -- close
 unfoldable pub closeStep : Stream → StepResult
-closeStep s = settle (first (closeRows s)) (doneStep 0 0 ended []) s []
+closeStep s = settle (first (closeRows s)) (doneStep 0 0 ended []) (λ n. refusedStep n s [])
 
 -- ---- the opener's calls
 
@@ -143,7 +123,7 @@ feedStep s piece output =
     let n = length piece in
     let p = streamedAt s (s .total) piece in
     settle (first (feedRows s n (length output)))
-    (doneStep n (pieceWork (s .total) n + addedWork s n) (added (deciphered s n) p) (put output (s .total) p)) s output
+    (doneStep n (pieceWork (s .total) n + addedWork s n) (added (deciphered s n) p) (put output (s .total) p)) (λ m. refusedStep m s output)
 
 -- the refusals of finish but for a forged string
 abbrev pub finishRows : Stream → ℕ → List Row
@@ -160,5 +140,4 @@ forgedStep s output = record { outcome = forged (tagOfStateWork s); state = ende
 -- finish: the verdict; the state is ended either way
 unfoldable pub finishStep : Stream → List ℕ → StepResult
 finishStep s output =
-    let number = first (finishTable s output) in
-    cond (eqb number 8) (forgedStep s output) (settle number (doneStep (s .total) (tagOfStateWork s) ended output) s output)
+    settle (first (finishTable s output)) (doneStep (s .total) (tagOfStateWork s) ended output) (forgedOr (forgedStep s output) (λ n. refusedStep n s output))

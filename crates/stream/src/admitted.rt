@@ -2,7 +2,7 @@
 ghost use mathlib.Core.Path.{_≡_};
 ghost use Prim.Native.Nat.{_+_, _≤_};
 ghost use lib.ListN.{length};
-ghost use Rattle.octets.specs.Octets.{put};
+ghost use Rattle.octets.specs.Octets.{Writes};
 ghost use Rattle.aes.specs.Work.{Reports};
 ghost use Rattle.s2v.specs.S2v.{tailLength};
 ghost use Rattle.keystream.specs.Pieces.{pieceWork};
@@ -39,11 +39,12 @@ pub(crate) fn tag_of_state(s: Stream) -> Counted
     s2v::tag_from(&engine, s.width, &keys, k, d, c, &tail[0..used])
 }
 
-// Writes a piece, xored with the state's key stream from a place of it on, at place at of a slice. Gives the block that is kept then, and the work.
+// Writes a piece, xored with the state's key stream from a place of it on, at place at of a slice.
+// Gives the block that is kept then, and the work.
 pub(crate) fn stream_at(s: Stream, place: usize, piece: &[u8], dst: &mut [u8], at: usize) -> Counted
     requires { ⌜ (s .width ≤ 32) × (place + length (now piece) ≤ limit) × (at + length (now piece) ≤ length (now dst)) ⌝ }
     ensures kept { λ r. ⌜ Reports (keptAt s place (length (now (piece .entry)))) (pieceWork place (length (now (piece .entry)))) r ⌝ }
-    ensures text { λ _. ⌜ now (dst .exit) ≡ put (now (dst .entry)) at (streamedAt s place (now (piece .entry))) ⌝ }
+    ensures text { λ _. ⌜ Writes dst at (streamedAt s place (now (piece .entry))) ⌝ }
 {
     let keys = s.ctr_keys;
     let v = s.v;

@@ -9,6 +9,7 @@ ghost use Rattle.stream.specs.Steps.{DidStep, refusedStep, beginBy};
 use crate::Step;
 use crate::Stream;
 use crate::ended;
+use crate::refused;
 use answers::Answer;
 use answers::Refusal;
 use head::Head;
@@ -47,11 +48,7 @@ pub(crate) fn begin_with(made: Made, stage: u8, v: Block) -> Step
     let answer = made.answer;
     let head = made.head;
     if let Answer::Refused(_) = answer {
-        return Step {
-            answer,
-            state: ended(),
-            work: 0,
-        };
+        return refused(answer, ended());
     }
     Step {
         answer: Answer::Ok(0),
@@ -65,15 +62,7 @@ pub(crate) fn refuse_tag(before: Answer) -> Step
     ensures { λ r. ⌜ DidStep (refusedStep (cond (eqb (outcomeOf before 0 .number) 0) 5 (outcomeOf before 0 .number)) ended []) r [] ⌝ }
 {
     if let Answer::Refused(_) = before {
-        return Step {
-            answer: before,
-            state: ended(),
-            work: 0,
-        };
+        return refused(before, ended());
     }
-    Step {
-        answer: Answer::Refused(Refusal::SealedLength),
-        state: ended(),
-        work: 0,
-    }
+    refused(Answer::Refused(Refusal::SealedLength), ended())
 }

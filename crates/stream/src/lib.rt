@@ -4,9 +4,12 @@ mod begin;
 mod judge;
 
 ghost use mathlib.Core.Path.{_≡_};
-ghost use mathlib.Core.List.{[]};
+ghost use mathlib.Core.List.{List, []};
+ghost use Prim.Native.Nat.{ℕ};
+ghost use Rattle.answers.specs.Answer.{outcomeOf};
 ghost use Rattle.stream.specs.State.{ended};
-ghost use Rattle.stream.specs.Steps.{DidStep, beginSealer, beginOpener, beginSealerFrom, beginOpenerFrom, addStep, turnStep, writeStep, closeStep, feedStep, finishStep};
+ghost use Rattle.stream.specs.Steps.{DidStep, beginSealer, beginOpener, beginSealerFrom, beginOpenerFrom};
+ghost use Rattle.stream.specs.Steps.{addStep, turnStep, writeStep, closeStep, feedStep, finishStep};
 use aes::RoundKeys;
 use answers::Answer;
 use answers::Refusal;
@@ -34,13 +37,15 @@ pub struct Stream {
     pub chain: Block,
     // V, the tag: zero in stage 1.
     pub v: Block,
-    // The block of the key stream that is begun and not used up, in stage 2 while written and in stage 3 while total is no multiple of 16; else zero.
+    // The block of the key stream that is begun and not used up,
+    // in stage 2 while written and in stage 3 while total is no multiple of 16; else zero.
     pub kept: Block,
     // How many bytes were added or fed.
     pub total: usize,
     // How many bytes were written: zero in stages 1 and 3.
     pub written: usize,
-    // How many bytes of the tail are used, the length of document 01's hold: total itself below 16, else 16 + total mod 16.
+    // How many bytes of the tail are used, the length of document 01's hold:
+    // total itself below 16, else 16 + total mod 16.
     pub tail_len: usize,
     // The plaintext's tail.
     pub tail: Tail,
@@ -71,6 +76,17 @@ pub(crate) fn ended() -> Stream
         written: 0,
         tail_len: 0,
         tail: [0u8; 31],
+    }
+}
+
+// A refusal, with a state and no work; the output, if one is lent, is as it came.
+pub(crate) fn refused(answer: Answer, state: Stream) -> Step
+    ensures { λ r. ⌜ ((output : List ℕ) → DidStep (record { outcome = outcomeOf answer 0; state = state; output = output }) r output) ⌝ }
+{
+    Step {
+        answer,
+        state,
+        work: 0,
     }
 }
 
@@ -120,11 +136,7 @@ impl Stream {
     {
         let answer = bounds::piece(judge::fits(1, self), Self::LIMIT, self.total, piece.len());
         if let Answer::Refused(_) = answer {
-            return Step {
-                answer,
-                state: self,
-                work: 0,
-            };
+            return refused(answer, self);
         }
         let absorbed = admitted::absorb(self, piece);
         let chain = absorbed.chain;
@@ -147,11 +159,7 @@ impl Stream {
     {
         let answer = bounds::room(judge::fits(1, self), Self::TAG_LEN, output.len());
         if let Answer::Refused(_) = answer {
-            return Step {
-                answer,
-                state: self,
-                work: 0,
-            };
+            return refused(answer, self);
         }
         let tag = admitted::tag_of_state(self);
         let v = tag.block;
@@ -179,11 +187,7 @@ impl Stream {
             output.len(),
         );
         if let Answer::Refused(_) = answer {
-            return Step {
-                answer,
-                state: self,
-                work: 0,
-            };
+            return refused(answer, self);
         }
         let end = admitted::stream_at(self, self.written, piece, output, 0);
         let kept = end.block;
@@ -207,11 +211,7 @@ impl Stream {
                 work: 0,
             };
         }
-        Step {
-            answer: Answer::Refused(Refusal::State),
-            state: self,
-            work: 0,
-        }
+        refused(Answer::Refused(Refusal::State), self)
     }
 
     // Feeds a piece of ciphertext: its plaintext, which nobody has approved yet, goes to output at offset total.
@@ -228,11 +228,7 @@ impl Stream {
             output.len(),
         );
         if let Answer::Refused(_) = answer {
-            return Step {
-                answer,
-                state: self,
-                work: 0,
-            };
+            return refused(answer, self);
         }
         let at = self.total;
         let end = admitted::stream_at(self, at, piece, output, at);
@@ -259,11 +255,7 @@ impl Stream {
     {
         let answer = bounds::room(judge::fits(3, self), self.total, output.len());
         if let Answer::Refused(_) = answer {
-            return Step {
-                answer,
-                state: self,
-                work: 0,
-            };
+            return refused(answer, self);
         }
         let total = self.total;
         let v = self.v;

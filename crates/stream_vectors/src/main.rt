@@ -1,4 +1,5 @@
-// RFC 5297's A.2 sealed and opened by pieces and from heads, against the document and the whole calls; then calls in wrong stages, on spoiled states, after the end and past the limit.
+// RFC 5297's A.2 sealed and opened by pieces and from heads, against the document and the whole calls;
+// then calls in wrong stages, on spoiled states, after the end and past the limit.
 mod heads;
 
 ghost use Prim.Native.Nat.{_+_, _≤_, _<_};

@@ -1,10 +1,11 @@
-// The tail: the bytes that wait for the plaintext's end. What a piece makes of it and of the CMAC chain over the blocks before it.
+// The tail: the bytes that wait for the plaintext's end.
+// What a piece makes of it and of the CMAC chain over the blocks before it.
 ghost use mathlib.Core.Path.{_≡_};
 ghost use mathlib.Core.List.{_++_};
 ghost use Prim.Native.Nat.{_+_, _*_, _^_, _≤_, _<_};
 ghost use lib.ListN.{length, drop};
 ghost use Rattle.aes.specs.Cipher.{cipher};
-ghost use Rattle.aes.specs.Engine.{Ready};
+ghost use Rattle.aes.specs.Engine.{CanEncrypt};
 ghost use Rattle.aes.specs.Work.{Reports};
 ghost use Rattle.cmac.specs.Cmac.{chain, chainWork};
 ghost use Rattle.s2v.specs.S2v.{tailLength};
@@ -17,7 +18,7 @@ use octets::Block;
 // The bytes that wait for the plaintext's end, and zeros behind them.
 pub type Tail = [u8; 31];
 
-// What a piece of plaintext leaves: the chain with its work, how many bytes there are in all, and the tail with its length.
+// What a piece of plaintext leaves: the chain with its work, how many bytes there are in all, the tail and its length.
 pub struct Absorbed {
     pub chain: Counted,
     pub total: usize,
@@ -35,7 +36,7 @@ fn chain_front(
     b: &[u8],
     n: usize,
 ) -> Counted
-    requires { ⌜ Ready (now engine) × (width ≤ 32) × (n ≤ 2) × (16 * n ≤ length (now a) + length (now b)) ⌝ }
+    requires { ⌜ CanEncrypt (now engine) width × (n ≤ 2) × (16 * n ≤ length (now a) + length (now b)) ⌝ }
     ensures { λ r. ⌜ Reports (chain (cipher width (now (keys .entry))) c (now (a .entry) ++ now (b .entry)) n) (chainWork n) r ⌝ }
 {
     let mut front = [0u8; 32];
@@ -43,7 +44,8 @@ fn chain_front(
     cmac::chain_blocks(engine, width, keys, c, &front, n)
 }
 
-// The chain from c over the first n blocks of two joined strings: the first string ends within two blocks, and those behind them are the second's own. Where there is no block, no table is built.
+// The chain from c over the first n blocks of two joined strings: the first string ends within two blocks, and those
+// behind them are the second's own. Where there is no block, no table is built.
 fn chain_joined(width: usize, keys: &RoundKeys, c: Block, a: &[u8], b: &[u8], n: usize) -> Counted
     requires { ⌜ (width ≤ 32) × (length (now a) ≤ 32) × (16 * n ≤ length (now a) + length (now b)) ⌝ }
     ensures { λ r. ⌜ Reports (chain (cipher width (now (keys .entry))) c (now (a .entry) ++ now (b .entry)) n) (chainWork n) r ⌝ }
@@ -75,7 +77,8 @@ fn tail_joined(a: &[u8], b: &[u8], at: usize, n: usize) -> Tail
     tail
 }
 
-// What a piece makes of the tail of total bytes, of which so many are used, and of the chain c over the blocks before it: of tail and piece, n blocks go into the chain, and what is left is the tail.
+// What a piece makes of the tail of total bytes, of which so many are used, and of the chain c over the blocks before:
+// of tail and piece, n blocks go into the chain, and what is left is the tail.
 pub fn absorb(
     width: usize,
     keys: &RoundKeys,

@@ -1,4 +1,5 @@
-// A wall unit's records: gym, wall and lane go through the cipher once, in a head, and each record is sealed from there, its number behind them; then by the whole call, which goes through all four strings. Each is printed with its work.
+// A wall unit's records: gym, wall and lane go through the cipher once, in a head, and each record is sealed from it,
+// its number behind them; then by the whole call, which goes through all four strings. Each is printed with its work.
 use answers::Answer;
 use head::Head;
 use stream::Step;
@@ -17,8 +18,8 @@ fn sum(a: usize, b: usize, c: usize, d: usize, e: usize) -> usize {
     std::num::wrapping_add_usize(std::num::wrapping_add_usize(ab, cd), e)
 }
 
-// Seals a record behind the head's strings and its own number. Where a call before it was refused, write is refused as well,
-// so that its answer tells; the work is that of all calls.
+// Seals a record behind the head's strings and its own number. Where a call before it was refused, write is refused
+// as well, so that its answer tells; the work is that of all calls.
 fn seal(head: Head, number: &[u8], plain: &[u8], tag: &mut [u8], text: &mut [u8]) -> Report {
     let begun = Stream::begin_sealer_from(head, number, &[8]);
     let added = state_of(begun).add(plain);
@@ -77,7 +78,9 @@ fn whole(key: &[u8], header: &[u8], plain: &[u8]) {
     }
 }
 
-// By slip 5 of document 02, the head's work is 2 for L and the CMAC of the zero block, and 2, 1 and 1 for strings of 18, 6 and 6 bytes: 6. A record's from the head is 1 for its number, and for 40 bytes of plaintext 3 and, as key stream, 3 again: 7. The whole call's is both: 13.
+// By slip 5 of document 02, the head's work is 2 for L and the CMAC of the zero block, and 2, 1 and 1 for strings of
+// 18, 6 and 6 bytes: 6. A record's from the head is 1 for its number, and for 40 bytes of plaintext 3 and,
+// as key stream, 3 again: 7. The whole call's is both: 13.
 fn main() {
     let key = b"a key for show, not for real use";
     let plain = b"descent 1204: 14.2 m, brake at 61 C, ok.";

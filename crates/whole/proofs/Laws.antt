@@ -2,7 +2,7 @@
 -- Assumes nothing.
 use mathlib.Core.Path.{_≡_, refl, ap, ap₂, sym, subst, _∙_}
 use mathlib.Core.Bool.{Bool, true, false, not, cond, _||_}
-use mathlib.Core.List.{List, [], _∷_, _++_}
+use mathlib.Core.List.{List, _++_}
 use Prim.Native.Nat.{ℕ, _+_, _-_, _/_, _≤_}
 use native.Mathlib.Decide.{ℕ-discrete}
 use native.Mathlib.Nat.{zero-add}
@@ -22,10 +22,10 @@ use Rattle.keystream.specs.KeyStream.{xorStream}
 use Rattle.keystream.proofs.Laws.{length-xorStream}
 use Rattle.answers.specs.declared.Answer.{Answer}
 use Rattle.answers.specs.declared.Answer.the-variants.{Ok}
-use Rattle.answers.specs.Answer.{Outcome, Row, row, first, outcomeOf, success, refusal, forged}
-use Rattle.answers.proofs.Laws.{first-not, first-pass, first-stop, first-none, none-where, not-due}
+use Rattle.answers.specs.Answer.{Row, first, forgedOr, outcomeOf, success, refusal, forged}
+use Rattle.answers.proofs.Laws.{IsRefused, due, first-none, none-where, not-due, settle-complete, settle-refused, settle-number, settle-forged, settle-unread, settle-verdict, by-complete, by-refusal, forged-stop, forged-test, rows-not-8, passed-at-0, passed-at-8, unread}
 use Rattle.whole.specs.declared.Report.{Report}
-use Rattle.whole.specs.Calls.{isKeyLength, limit, scratchNeed, headerRows, sealRows, openRows, Usable, DidCall, sealNumber, sealCall, openNumber, openCall}
+use Rattle.whole.specs.Calls.{isKeyLength, limit, scratchNeed, headerRows, sealRows, openRows, openingRows, Usable, CallResult, refusedCall, DidCall, sealNumber, sealedCall, sealCall, openNumber, openedCall, forgedCall, openCall}
 use Rattle.whole.specs.Siv.{tagOf, tagOfWork, streamed, sealed, sealedWork, opened, genuine, genuineWork}
 
 -- ---- keys
@@ -103,7 +103,7 @@ header-admits keyLength lens headerLength e =
 pub header-usable : (key bytes lens : List ℕ) → first (headerRows (length key) lens (length bytes)) ≡ 0 → Usable key bytes lens
 header-usable key bytes lens e =
     let a = header-admits (length key) lens (length bytes) e in
-    (a .0, omega (arith, a .1), a .2)
+    (a .0, (omega (arith, a .1), a .2))
 
 -- what sealing's refusals leave
 pub record SealAdmits (key bytes lens input output scratch : List ℕ) : Type 0 where
@@ -132,28 +132,43 @@ module _ (key bytes lens input output scratch : List ℕ) where
         scratchFits = ltb-false (length scratch) (scratchNeed (length input)) (h .0);
       }
 
+  -- the call by its number
+  pub seal-numbered : sealCall key bytes lens input output scratch .outcome .number ≡ sealNumber key bytes lens input output scratch
+  unfolding sealCall
+  seal-numbered = settle-number _ _ (λ n. refusedCall n output scratch) (λ (r : CallResult). r .outcome .number) refl (λ m. refl)
+
+  pub seal-complete : sealNumber key bytes lens input output scratch ≡ 0 → sealCall key bytes lens input output scratch ≡ sealedCall key bytes lens input output scratch
+  unfolding sealCall
+  seal-complete e = settle-complete _ _ (λ n. refusedCall n output scratch) e
+
+  pub seal-untouched : (sealNumber key bytes lens input output scratch ≡ 0 → ⊥)
+      → sealCall key bytes lens input output scratch ≡ refusedCall (sealNumber key bytes lens input output scratch) output scratch
+  unfolding sealCall
+  seal-untouched z = settle-refused _ _ (λ n. refusedCall n output scratch) z
+
   -- no length is above the longest sealed string's
   pub seal-count : sealCall key bytes lens input output scratch .outcome .count ≤ limit + 16
   unfolding sealCall
-  seal-count = go (eqb (sealNumber key bytes lens input output scratch) 0) refl
+  seal-count = go (ℕ-discrete (sealNumber key bytes lens input output scratch) 0)
     where
-      go : (t : Bool) → eqb (sealNumber key bytes lens input output scratch) 0 ≡ t → cond t (length input + 16) 0 ≤ limit + 16
-      go true e = omega (arith, seal-admits (eqb-true _ 0 e) .limited)
-      go false e = omega arith
+      go : Dec (sealNumber key bytes lens input output scratch ≡ 0) → sealCall key bytes lens input output scratch .outcome .count ≤ limit + 16
+      go (yes e) = simp e (omega (arith, seal-admits e .limited))
+      go (no e) = simp (ne-eqb _ 0 e) (omega arith)
 
-  pub seal-refused : (answer : Answer) → (outcomeOf answer 0 .number ≡ 0 → ⊥) → outcomeOf answer 0 ≡ refusal (sealNumber key bytes lens input output scratch)
+  pub seal-refused : (answer : Answer) → IsRefused answer → outcomeOf answer 0 ≡ refusal (sealNumber key bytes lens input output scratch)
       → DidCall (sealCall key bytes lens input output scratch) (record { answer = answer; work = 0 }) output scratch
   unfolding sealCall
   seal-refused answer k e =
-      let number = sealNumber key bytes lens input output scratch in
-      let off : eqb number 0 ≡ false = ne-eqb number 0 (λ z. k (ap (λ (o : Outcome). o .number) e ∙ z)) in
-      record { outcome = simp off e; output = simp off refl; scratch = simp off refl }
+      by-refusal _ _ (λ o. record { outcome = o; output = output; scratch = scratch }) (λ (r : CallResult). DidCall r (record { answer = answer; work = 0 }) output scratch) answer k e
+      (record { outcome = refl; output = refl; scratch = refl })
 
   pub seal-done : (w : ℕ) (output′ scratch′ : List ℕ) → sealNumber key bytes lens input output scratch ≡ 0 → w ≡ sealedWork key (strings bytes lens) input
       → output′ ≡ put output 0 (sealed key (strings bytes lens) input) → scratch′ ≡ put scratch 0 (replicate (scratchNeed (length input)) 0)
       → DidCall (sealCall key bytes lens input output scratch) (record { answer = Ok (length input + 16); work = w }) output′ scratch′
   unfolding sealCall
-  seal-done w output′ scratch′ e n p q = record { outcome = simp e (ap (success (length input + 16)) n); output = simp e p; scratch = simp e q }
+  seal-done w output′ scratch′ e n p q =
+      by-complete _ _ (λ n. refusedCall n output scratch) (λ (r : CallResult). DidCall r (record { answer = Ok (length input + 16); work = w }) output′ scratch′) e
+      (record { outcome = ap (success (length input + 16)) n; output = p; scratch = q })
 
 -- ---- whole opening
 
@@ -212,9 +227,12 @@ scratch-wiped scratch used n u e =
     e ∙ put-beyond scratch used (replicate (scratchNeed n) 0) n (omega arith) u
 
 module _ (key bytes lens input output scratch : List ℕ) where
-  -- the number that opening's judgement gives
+  -- the rows that lengths decide, and the number that they give
+  abbrev rows : List Row
+  rows = openingRows (length key) lens (length bytes) (length input) (length output) (length scratch)
+
   abbrev pub openJudged : ℕ
-  openJudged = first (headerRows (length key) lens (length bytes) ++ openRows (length input) (length output) (length scratch))
+  openJudged = first rows
 
   pub open-admits : openJudged ≡ 0 → OpenAdmits key bytes lens input output scratch
   open-admits e =
@@ -234,102 +252,101 @@ module _ (key bytes lens input output scratch : List ℕ) where
         scratchFits = ltb-false (length scratch) (scratchNeed (length input - 16)) (i .0);
       }
 
+  abbrev test : Bool
+  test = genuine key (strings bytes lens) input
+
+  abbrev call : CallResult
+  call = openCall key bytes lens input output scratch
+
   number : ℕ
   number = openNumber key bytes lens input output scratch
 
-  rows : List Row
-  rows = headerRows (length key) lens (length bytes) ++ openRows (length input) (length output) (length scratch)
-
-  -- a refusal of the judgement is opening's
-  number-due : (openJudged ≡ 0 → ⊥) → number ≡ openJudged
-  unfolding number rows openNumber
-  number-due due = first-stop rows (row 8 (not (genuine key (strings bytes lens) input)) ∷ []) due
-
   -- past the judgement the tag decides
   pub by-tag : openJudged ≡ 0 → openNumber key bytes lens input output scratch ≡ cond (not (genuine key (strings bytes lens) input)) 8 0
-  unfolding rows openNumber
-  by-tag judged = first-pass rows (row 8 (not (genuine key (strings bytes lens) input)) ∷ []) refl judged
+  unfolding openNumber
+  by-tag judged = forged-test rows test refl refl judged
 
-  not-eight : openJudged ≡ 8 → ⊥
-  unfolding rows
-  not-eight e = first-not 8 rows refl (λ q. omega arith) e
+  -- 0 and 8 passed the judgement, and any other number did not
+  pub open-passed : openNumber key bytes lens input output scratch ≡ 0 → openJudged ≡ 0
+  unfolding openNumber
+  open-passed e = passed-at-0 rows test refl refl e
 
-  pub open-refused : (answer : Answer) → (outcomeOf answer 0 .number ≡ 0 → ⊥) → outcomeOf answer 0 ≡ refusal openJudged
+  pub open-forged : openNumber key bytes lens input output scratch ≡ 8 → openJudged ≡ 0
+  unfolding openNumber
+  open-forged e = passed-at-8 rows test refl refl e
+
+  pub open-unread : (openNumber key bytes lens input output scratch ≡ 0 → ⊥) → (openNumber key bytes lens input output scratch ≡ 8 → ⊥) → openJudged ≡ 0 → ⊥
+  unfolding openNumber
+  open-unread z e = unread rows test refl refl z e
+
+  -- the call by its number
+  pub open-numbered : call .outcome .number ≡ openNumber key bytes lens input output scratch
+  unfolding openCall
+  open-numbered = settle-verdict _ _ _ (λ n. refusedCall n output scratch) (λ (r : CallResult). r .outcome .number) refl refl (λ m. refl)
+
+  pub open-complete : openNumber key bytes lens input output scratch ≡ 0 → call ≡ openedCall key bytes lens input output scratch
+  unfolding openCall
+  open-complete e = settle-complete _ _ (forgedOr (forgedCall key bytes lens input output scratch) (λ n. refusedCall n output scratch)) e
+
+  pub open-forgery : openNumber key bytes lens input output scratch ≡ 8 → call ≡ forgedCall key bytes lens input output scratch
+  unfolding openCall
+  open-forgery e = settle-forged _ _ _ (λ n. refusedCall n output scratch) e
+
+  pub open-untouched : (openNumber key bytes lens input output scratch ≡ 0 → ⊥) → (openNumber key bytes lens input output scratch ≡ 8 → ⊥)
+      → call ≡ refusedCall (openNumber key bytes lens input output scratch) output scratch
+  unfolding openCall
+  open-untouched z e = settle-unread _ _ _ (λ n. refusedCall n output scratch) z e
+
+  -- a refusal of the judgement is the call's, with no work
+  pub open-stops : (openJudged ≡ 0 → ⊥) → call ≡ refusedCall openJudged output scratch
+  unfolding openNumber
+  open-stops due =
+      let stops = forged-stop rows test refl refl due in
+      open-untouched (λ z. due (sym stops ∙ z)) (λ z. rows-not-8 rows test refl refl (sym stops ∙ z)) ∙ ap (λ (n : ℕ). refusedCall n output scratch) stops
+
+  pub open-refused : (answer : Answer) → IsRefused answer → outcomeOf answer 0 ≡ refusal openJudged
       → DidCall (openCall key bytes lens input output scratch) (record { answer = answer; work = 0 }) output scratch
-  unfolding openCall number
   open-refused answer k e =
-      let due : openJudged ≡ 0 → ⊥ = λ z. k (ap (λ (o : Outcome). o .number) e ∙ z) in
-      let off : eqb number 0 ≡ false = ne-eqb number 0 (λ z. due (sym (number-due due) ∙ z)) in
-      let off8 : eqb number 8 ≡ false = ne-eqb number 8 (λ z. not-eight (sym (number-due due) ∙ z)) in
-      record { outcome = simp (off, off8) (e ∙ ap refusal (sym (number-due due))); output = simp (off, off8) refl; scratch = simp (off, off8) refl }
+      subst (λ (r : CallResult). DidCall r (record { answer = answer; work = 0 }) output scratch) (sym (open-stops (due answer openJudged k e)))
+      (record { outcome = e; output = refl; scratch = refl })
 
-  -- a refusal of the judgement is the call's number
-  pub open-due : (openJudged ≡ 0 → ⊥) → openCall key bytes lens input output scratch .outcome .number ≡ openJudged
-  unfolding openCall number
-  open-due due = number-due due
+  -- past the judgement the string is genuine or forged, and the work is that of telling
+  pub open-told : (g : Bool) → genuine key (strings bytes lens) input ≡ g → openJudged ≡ 0
+      → call ≡ cond g (openedCall key bytes lens input output scratch) (forgedCall key bytes lens input output scratch)
+  open-told true e judged = open-complete (by-tag judged ∙ ap (λ (b : Bool). cond (not b) 8 0) e)
+  open-told false e judged = open-forgery (by-tag judged ∙ ap (λ (b : Bool). cond (not b) 8 0) e)
 
-  -- with no work
-  pub open-due-work : (openJudged ≡ 0 → ⊥) → openCall key bytes lens input output scratch .outcome .work ≡ 0
-  unfolding openCall number
-  open-due-work due =
-      let off : eqb number 0 ≡ false = ne-eqb number 0 (λ z. due (sym (number-due due) ∙ z)) in
-      let off8 : eqb number 8 ≡ false = ne-eqb number 8 (λ z. not-eight (sym (number-due due) ∙ z)) in
-      simp (off, off8)
-
-  -- past the judgement the work is that of telling
-  pub open-work : openJudged ≡ 0 → openCall key bytes lens input output scratch .outcome .work ≡ genuineWork key (strings bytes lens) input
-  unfolding openCall number
-  open-work judged = go (genuine key (strings bytes lens) input) (by-tag judged)
+  pub open-work : openJudged ≡ 0 → call .outcome .work ≡ genuineWork key (strings bytes lens) input
+  open-work judged = go test refl
     where
-      go : (g : Bool) → number ≡ cond (not g) 8 0 → openCall key bytes lens input output scratch .outcome .work ≡ genuineWork key (strings bytes lens) input
-      go true e = simp e refl
-      go false e = simp e refl
+      go : (g : Bool) → test ≡ g → call .outcome .work ≡ genuineWork key (strings bytes lens) input
+      go true e = ap (λ (r : CallResult). r .outcome .work) (open-told true e judged)
+      go false e = ap (λ (r : CallResult). r .outcome .work) (open-told false e judged)
 
   -- past the judgement the number is 0 where the string is genuine
-  pub open-number : openJudged ≡ 0 → eqb (openCall key bytes lens input output scratch .outcome .number) 0 ≡ genuine key (strings bytes lens) input
-  unfolding openCall number
-  open-number judged = ap (λ (n : ℕ). eqb n 0) (by-tag judged) ∙ none-where (genuine key (strings bytes lens) input)
-
-  -- a number of 0 passed the judgement
-  pub open-passed : openNumber key bytes lens input output scratch ≡ 0 → openJudged ≡ 0
-  unfolding number rows openNumber
-  open-passed e = first-none rows (row 8 (not (genuine key (strings bytes lens) input)) ∷ []) refl e .0
-
-  -- and so did a number of 8
-  pub open-forged : openNumber key bytes lens input output scratch ≡ 8 → openJudged ≡ 0
-  unfolding number
-  open-forged e = go (ℕ-discrete openJudged 0)
-    where
-      go : Dec (openJudged ≡ 0) → openJudged ≡ 0
-      go (yes z) = z
-      go (no z) = absurd (not-eight (sym (number-due z) ∙ e))
-
-  -- any other did not
-  pub open-unread : (openNumber key bytes lens input output scratch ≡ 0 → ⊥) → (openNumber key bytes lens input output scratch ≡ 8 → ⊥) → openJudged ≡ 0 → ⊥
-  open-unread z e judged = go (genuine key (strings bytes lens) input) (by-tag judged)
-    where
-      go : (g : Bool) → openNumber key bytes lens input output scratch ≡ cond (not g) 8 0 → ⊥
-      go true n = z n
-      go false n = e n
+  pub open-number : openJudged ≡ 0 → eqb (call .outcome .number) 0 ≡ genuine key (strings bytes lens) input
+  open-number judged = ap (λ (n : ℕ). eqb n 0) (open-numbered ∙ by-tag judged) ∙ none-where test
 
   -- no length is above the longest plaintext's
-  pub open-count : openCall key bytes lens input output scratch .outcome .count ≤ limit
-  unfolding openCall
-  open-count = go (eqb (openNumber key bytes lens input output scratch) 0) refl
+  pub open-count : call .outcome .count ≤ limit
+  unfolding number
+  open-count = go (ℕ-discrete number 0) (ℕ-discrete number 8)
     where
-      go : (t : Bool) → eqb (openNumber key bytes lens input output scratch) 0 ≡ t → cond t (length input - 16) 0 ≤ limit
-      go true e = omega (arith, open-admits (open-passed (eqb-true _ 0 e)) .limited)
-      go false e = omega arith
+      at : {r : CallResult} → call ≡ r → r .outcome .count ≤ limit → call .outcome .count ≤ limit
+      at e h = subst (λ (r : CallResult). r .outcome .count ≤ limit) (sym e) h
+
+      go : Dec (number ≡ 0) → Dec (number ≡ 8) → call .outcome .count ≤ limit
+      go (yes e) d = at (open-complete e) (omega (arith, open-admits (open-passed e) .limited))
+      go (no z) (yes e) = at (open-forgery e) (omega arith)
+      go (no z) (no e) = at (open-untouched z e) (omega arith)
 
   -- past the judgement what was read of a genuine string, or zeros, are in the output
   pub open-delivered : (g : Bool) → genuine key (strings bytes lens) input ≡ g → openJudged ≡ 0 → (report : Report) (read output′ scratch′ : List ℕ)
       → ((w : ℕ) → outcomeOf (report .answer) w ≡ cond g (success (length input - 16) w) (forged w)) → report .work ≡ genuineWork key (strings bytes lens) input → (g ≡ true → read ≡ opened key input)
       → output′ ≡ put output 0 (cond g read (replicate (length input - 16) 0)) → scratch′ ≡ put scratch 0 (replicate (scratchNeed (length input - 16)) 0)
       → DidCall (openCall key bytes lens input output scratch) report output′ scratch′
-  unfolding openCall number
   open-delivered true e judged report read output′ scratch′ o w t p q =
-      let none : number ≡ 0 = by-tag judged ∙ ap (λ (b : Bool). cond (not b) 8 0) e in
-      record { outcome = simp none (o _ ∙ ap (success (length input - 16)) w); output = simp none (p ∙ ap (put output 0) (t refl)); scratch = simp none q }
+      subst (λ (r : CallResult). DidCall r report output′ scratch′) (sym (open-told true e judged))
+      (record { outcome = o _ ∙ ap (success (length input - 16)) w; output = p ∙ ap (put output 0) (t refl); scratch = q })
   open-delivered false e judged report read output′ scratch′ o w t p q =
-      let eight : number ≡ 8 = by-tag judged ∙ ap (λ (b : Bool). cond (not b) 8 0) e in
-      record { outcome = simp eight (o _ ∙ ap forged w); output = simp eight p; scratch = simp eight q }
+      subst (λ (r : CallResult). DidCall r report output′ scratch′) (sym (open-told false e judged)) (record { outcome = o _ ∙ ap forged w; output = p; scratch = q })

@@ -9,21 +9,21 @@ use native.Mathlib.Nat.{suc-add, add-zero, add-suc, zero-mul, mul-zero, suc-mul,
 use native.Mathlib.Omega.{arith}
 use lib.Dec.{eqb, ltb}
 use lib.ListN.{length, take, drop, replicate, length-take, length-drop}
-use borrow.Author.Tests.{eqb-true, eqb-false, eq-eqb, ne-eqb, lt-ltb, le-ltb, ltb-true, ltb-false}
+use borrow.Author.Tests.{eqb-true, eq-eqb, ne-eqb, lt-ltb, le-ltb, ltb-true, ltb-false}
 use Rattle.octets.specs.Octets.{put}
 use Rattle.octets.proofs.Strings.{part-to}
 use Rattle.header.specs.Header.{strings}
 use Rattle.answers.specs.declared.Answer.{Answer}
-use Rattle.answers.specs.Answer.{Outcome, Row, first, outcomeOf, success, refusal, forged}
-use Rattle.answers.proofs.Laws.{first-none, first-pass, first-stop, outcome-with}
+use Rattle.answers.specs.Answer.{Outcome, Row, first, settle, outcomeOf, success, refusal, forged}
+use Rattle.answers.proofs.Laws.{IsRefused, due, first-none, first-pass, first-stop, settle-complete, settle-refused, outcome-with}
 use Rattle.whole.specs.declared.Found.{Found}
 use Rattle.whole.specs.declared.RingAnswer.{RingAnswer}
-use Rattle.whole.specs.Calls.{isKeyLength, limit, scratchNeed, headerRows, openRows}
+use Rattle.whole.specs.Calls.{isKeyLength, limit, scratchNeed, headerRows, openRows, CallResult}
 use Rattle.whole.specs.Ring.{isRing, slotCount, slotKey, trySlots, triedWork, givenSlot, ringRows, RingResult, refusedRing, DidRing, openSlot, opensAt, workAt, openSlotWith, openRing}
 use Rattle.whole.specs.Siv.{opened, genuine, genuineWork}
 use Rattle.whole.specs.Work.{blockWork}
 use Rattle.whole.proofs.Lengths.{genuine-lengths}
-use Rattle.whole.proofs.Laws.{openJudged, open-admits, open-due, open-due-work, open-count, open-number, open-work, open-refused, open-delivered, length-opened, text-read, scratch-wiped}
+use Rattle.whole.proofs.Laws.{openJudged, open-admits, open-stops, open-count, open-number, open-work, open-refused, open-delivered, length-opened, text-read, scratch-wiped}
 
 -- ---- lengths
 
@@ -161,7 +161,8 @@ try-same test test′ work work′ i sum (suc n) t w =
     ap₂ (λ (b : Bool) (k : ℕ). cond b (record { slot = i; work = sum + k }) (trySlots test work (suc i) (sum + k) n)) (t i (omega arith)) (w i (omega arith))
     ∙ ap (λ (r : Found). cond (test′ i) (record { slot = i; work = sum + work′ i }) r) (try-same test test′ work work′ (suc i) (sum + work′ i) n (λ j h. t j (omega arith)) (λ j h. w j (omega arith)))
 
--- how far the search is where so many slots are left: the rest ends where all do, and of the scratch only the first n bytes were used
+-- how far the search is where so many slots are left:
+-- the rest ends where all do, and of the scratch only the first n bytes were used
 pub record Trying (test : ℕ → Bool) (work : ℕ → ℕ) (most count n : ℕ) (scratch used : List ℕ) (left sum : ℕ) : Type 0 where
   pub within : left ≤ count
   pub long : length used ≡ length scratch
@@ -274,24 +275,24 @@ module _ (keyLength : ℕ) (ring bytes lens input output scratch : List ℕ) whe
   abbrev withSlot : ℕ → RingResult
   withSlot s = record { slot = s; call = openSlotWith keyLength ring bytes lens input output scratch s ringWork }
 
-  -- what the call comes to where n is the number of the refusals that judge the ring
-  pub data Comes (n : ℕ) : RingResult → Type 0 where
-    goes : {s : ℕ} → n ≡ 0 → Chosen opens count s → Comes n (withSlot s)
-    stops : (n ≡ 0 → ⊥) → Comes n (refusedRing n output scratch)
+  -- the call where n is the number of the refusals that judge the ring, and its two cases
+  abbrev pub ringBy : ℕ → RingResult
+  ringBy n = settle n (withSlot (givenSlot (trySlots opens works 0 0 count) count)) (λ m. refusedRing m output scratch)
 
-  abbrev pub cameTo : ℕ → RingResult
-  cameTo n = cond (eqb n 0) (withSlot (givenSlot (trySlots opens works 0 0 count) count)) (refusedRing n output scratch)
+  pub data RingCase (n : ℕ) : RingResult → Type 0 where
+    tries : {s : ℕ} → n ≡ 0 → Chosen opens count s → RingCase n (withSlot s)
+    refuses : (n ≡ 0 → ⊥) → RingCase n (refusedRing n output scratch)
 
-  pub comes : (n : ℕ) → Comes n (cameTo n)
-  comes n = go (eqb n 0) refl
+  pub ring-case : (n : ℕ) → RingCase n (ringBy n)
+  ring-case n = go (ℕ-discrete n 0)
     where
-      go : (t : Bool) → eqb n 0 ≡ t → Comes n (cond t (withSlot (givenSlot (trySlots opens works 0 0 count) count)) (refusedRing n output scratch))
-      go true e = goes (eqb-true n 0 e) (chosen opens count works)
-      go false e = stops (eqb-false n 0 e)
+      go : Dec (n ≡ 0) → RingCase n (ringBy n)
+      go (yes e) = subst (RingCase n) (sym (settle-complete n _ (λ m. refusedRing m output scratch) e)) (tries e (chosen opens count works))
+      go (no e) = subst (RingCase n) (sym (settle-refused n _ (λ m. refusedRing m output scratch) e)) (refuses e)
 
-  pub ring-comes : Comes (first (ringRows keyLength (length ring))) (openRing keyLength ring bytes lens input output scratch)
+  pub open-ring-case : RingCase (first (ringRows keyLength (length ring))) (openRing keyLength ring bytes lens input output scratch)
   unfolding openRing
-  ring-comes = comes (first (ringRows keyLength (length ring)))
+  open-ring-case = ring-case (first (ringRows keyLength (length ring)))
 
   -- ---- its judgement
 
@@ -320,7 +321,7 @@ module _ (keyLength : ℕ) (ring bytes lens input output scratch : List ℕ) whe
       → (openJudged (slotKey keyLength ring s) bytes lens input output scratch ≡ 0 → ⊥) → ringWork ≡ 0
   ring-idle z s h due =
       let each : (j : ℕ) → j < 0 + count → works j ≡ 0 = λ j k.
-      open-due-work (slotKey keyLength ring j) bytes lens input output scratch (λ y. due (slot-judged z s h ∙ sym (slot-judged z j (omega arith)) ∙ y)) in
+      ap (λ (r : CallResult). r .outcome .work) (open-stops (slotKey keyLength ring j) bytes lens input output scratch (λ y. due (slot-judged z s h ∙ sym (slot-judged z j (omega arith)) ∙ y))) in
       omega (arith, try-work opens works 0 0 0 count each, mul-zero (trySlots opens works 0 0 count .slot + cond (ltb (trySlots opens works 0 0 count .slot) (0 + count)) 1 0))
 
   -- past it the work is one key's, times the keys tried
@@ -336,29 +337,30 @@ module _ (keyLength : ℕ) (ring bytes lens input output scratch : List ℕ) whe
       omega (arith, zero-mul w, try-work opens works w 0 0 count each) ∙ ap (λ (k : ℕ). k * w) (sym (chosen-tried opens count works some g))
 
   -- a refusal of the judgement is the ring's
-  pub ring-refused : (answer : Answer) → (outcomeOf answer 0 .number ≡ 0 → ⊥) → outcomeOf answer 0 ≡ refusal ringJudged
+  pub ring-refused : (answer : Answer) → IsRefused answer → outcomeOf answer 0 ≡ refusal ringJudged
       → DidRing (openRing keyLength ring bytes lens input output scratch) (record { answer = answer; slot = 0; work = 0 }) output scratch
-  ring-refused answer k e = go ring-comes
+  ring-refused answer k e = go open-ring-case
     where
-      go : {result : RingResult} → Comes (first (ringRows keyLength (length ring))) result → DidRing result (record { answer = answer; slot = 0; work = 0 }) output scratch
-      go (stops z) =
+      go : {result : RingResult} → RingCase (first (ringRows keyLength (length ring))) result → DidRing result (record { answer = answer; slot = 0; work = 0 }) output scratch
+      go (refuses z) =
           record {
             slot = refl;
             call = record { outcome = e ∙ ap refusal (first-stop (ringRows keyLength (length ring)) restRows z); output = refl; scratch = refl };
           }
-      go (goes {s} z g) =
+      go (tries {s} z g) =
           let within = chosen-within opens count (ring-admits keyLength (length ring) z .1 .some) g in
           let judged = first-pass (ringRows keyLength (length ring)) restRows refl z ∙ sym (slot-judged z s within) in
-          let due : openJudged (slotKey keyLength ring s) bytes lens input output scratch ≡ 0 → ⊥ = λ y. k (ap (λ (o : Outcome). o .number) e ∙ judged ∙ y) in
+          let due-one : openJudged (slotKey keyLength ring s) bytes lens input output scratch ≡ 0 → ⊥ = λ y. due answer ringJudged k e (judged ∙ y) in
           let refused = open-refused (slotKey keyLength ring s) bytes lens input output scratch answer k (e ∙ ap refusal judged) in
           let closed : opens s ≡ false = ne-eqb (openSlot keyLength ring bytes lens input output scratch s .outcome .number) 0
-          (λ y. due (sym (open-due (slotKey keyLength ring s) bytes lens input output scratch due) ∙ y)) in
+          (λ y. due-one (sym (ap (λ (r : CallResult). r .outcome .number) (open-stops (slotKey keyLength ring s) bytes lens input output scratch due-one)) ∙ y)) in
           record {
             slot = sym (chosen-closed opens count g closed);
-            call = record { outcome = outcome-with answer 0 0 (refused .outcome) (sym (ring-idle z s within due)); output = refused .output; scratch = refused .scratch };
+            call = record { outcome = outcome-with answer 0 0 (refused .outcome) (sym (ring-idle z s within due-one)); output = refused .output; scratch = refused .scratch };
           }
 
-  -- what the search and the delivery after it come to: end is where the search ended, and used what it left in the scratch
+  -- what the search and the delivery after it come to:
+  -- end is where the search ended, and used what it left in the scratch
   pub ring-delivered : ringJudged ≡ 0 → (end : Found)
       → end ≡ trySlots (λ i. genuine (slotKey keyLength ring i) (strings bytes lens) input) (λ i. genuineWork (slotKey keyLength ring i) (strings bytes lens) input) 0 0 count
       → (given : RingAnswer) (used output′ scratch′ : List ℕ) → given .slot ≡ givenSlot end count → given .work ≡ end .work
@@ -369,7 +371,7 @@ module _ (keyLength : ℕ) (ring bytes lens input output scratch : List ℕ) whe
       → DidRing (openRing keyLength ring bytes lens input output scratch) given output′ scratch′
   unfolding openRing
   ring-delivered judged end search given used output′ scratch′ at sum text o p rest wiped =
-      subst (λ (r : RingResult). DidRing r given output′ scratch′) (sym comes-to) (go (ltb (end .slot) count) refl at o p)
+      subst (λ (r : RingResult). DidRing r given output′ scratch′) (sym result) (go (ltb (end .slot) count) refl at o p)
     where
       test : ℕ → Bool
       test i = genuine (slotKey keyLength ring i) (strings bytes lens) input
@@ -385,9 +387,9 @@ module _ (keyLength : ℕ) (ring bytes lens input output scratch : List ℕ) whe
           (try-same opens test works _ 0 0 count (λ j h. open-number (slotKey keyLength ring j) bytes lens input output scratch (slot-passed judged j (omega arith)))
           (λ j h. open-work (slotKey keyLength ring j) bytes lens input output scratch (slot-passed judged j (omega arith))))
 
-      comes-to : openRing keyLength ring bytes lens input output scratch ≡ record { slot = givenSlot end count; call = openSlotWith keyLength ring bytes lens input output scratch (givenSlot end count) (end .work) }
-      comes-to =
-          ap cameTo (ring-judged judged .0)
+      result : openRing keyLength ring bytes lens input output scratch ≡ record { slot = givenSlot end count; call = openSlotWith keyLength ring bytes lens input output scratch (givenSlot end count) (end .work) }
+      result =
+          ap ringBy (ring-judged judged .0)
           ∙ ap (λ (f : Found). record { slot = givenSlot f count; call = openSlotWith keyLength ring bytes lens input output scratch (givenSlot f count) (f .work) }) (sym same)
 
       -- with the slot given, the test of its key, and what was read where it is passed
@@ -414,10 +416,10 @@ module _ (keyLength : ℕ) (ring bytes lens input output scratch : List ℕ) whe
           by 0 false at some (tells .before 0 (omega arith) (omega (arith, some, ltb-false (end .slot) count e))) (λ t. absurd (false≢true t)) o p
 
   -- slot and length are small, so that both fit in one number with the answer's
-  pub comes-small : {n : ℕ} {result : RingResult} → (n ≡ 0 → first (ringRows keyLength (length ring)) ≡ 0) → Comes n result
+  pub ring-case-small : {n : ℕ} {result : RingResult} → (n ≡ 0 → first (ringRows keyLength (length ring)) ≡ 0) → RingCase n result
       → (result .slot ≤ 3) × (result .call .outcome .count ≤ limit)
-  comes-small f (stops z) = (omega arith, omega arith)
-  comes-small f (goes {s} z g) =
+  ring-case-small f (refuses z) = (omega arith, omega arith)
+  ring-case-small f (tries {s} z g) =
       let whole = ring-admits keyLength (length ring) (f z) .1 in (
         omega (arith, chosen-within opens count (whole .some) g, whole .most),
         omega (arith, open-count (slotKey keyLength ring s) bytes lens input output scratch),
@@ -426,5 +428,5 @@ module _ (keyLength : ℕ) (ring bytes lens input output scratch : List ℕ) whe
   pub ring-small : (given : RingAnswer) (last last′ : List ℕ) → DidRing (openRing keyLength ring bytes lens input output scratch) given last last′
       → (given .slot ≤ 3) × (outcomeOf (given .answer) 0 .count ≤ limit)
   ring-small given last last′ d =
-      let small = comes-small (λ z. z) ring-comes in
+      let small = ring-case-small (λ z. z) open-ring-case in
       (omega (arith, small .0, d .slot), omega (arith, small .1, ap (λ (o : Outcome). o .count) (outcome-with (given .answer) (given .work) 0 (d .call .outcome) refl)))

@@ -1,16 +1,16 @@
--- Whole sealing and opening on every input: number, length, work and the last contents of each lent buffer, from document 01 and slip 5 of document 02.
+-- Whole sealing and opening on every input: number, length,
+-- work and the last contents of each lent buffer, from document 01 and slip 5 of document 02.
 -- Assumes nothing.
 use mathlib.Core.Path.{_≡_}
-use mathlib.Core.Bool.{Bool, true, not, cond, _||_}
+use mathlib.Core.Bool.{Bool, true, not, _||_}
 use mathlib.Core.List.{List, [], _∷_, _++_}
-use Prim.Native.Nat.{ℕ, _+_, _-_, _≤_, max}
+use Prim.Native.Nat.{ℕ, _+_, _-_, max}
 use lib.Dec.{ltb, eqb}
 use lib.ListN.{length, replicate}
-use denote.Ref.{RefT, now}
-use denote.Triple.Both.{Both}
-use Rattle.octets.specs.Octets.{put}
-use Rattle.header.specs.Header.{total, strings}
-use Rattle.answers.specs.Answer.{Outcome, refusal, Row, row, first, outcomeOf}
+use denote.Ref.{now}
+use Rattle.octets.specs.Octets.{put, Lent}
+use Rattle.header.specs.Header.{total, strings, Walkable}
+use Rattle.answers.specs.Answer.{Outcome, success, refusal, forged, outcomeOf, Row, row, first, settle, forgedOr}
 use Rattle.whole.specs.declared.Report.{Report}
 use Rattle.whole.specs.Siv.{sealed, sealedWork, opened, genuine, genuineWork}
 
@@ -40,9 +40,13 @@ abbrev pub openRows : ℕ → ℕ → ℕ → List Row
 openRows y output scratch =
     row 5 (ltb y 16) ∷ row 4 (ltb (limit + 16) y) ∷ row 6 (ltb output (y - 16)) ∷ row 7 (ltb scratch (scratchNeed (y - 16))) ∷ []
 
+-- the refusals of opening that lengths alone tell
+abbrev pub openingRows : ℕ → List ℕ → ℕ → ℕ → ℕ → ℕ → List Row
+openingRows keyLength lens headerLength y output scratch = headerRows keyLength lens headerLength ++ openRows y output scratch
+
 -- a key and a header list that can be used: what the refusals leave is more
 abbrev pub Usable : List ℕ → List ℕ → List ℕ → Type 0
-Usable key bytes lens = (isKeyLength (length key) ≡ true) × (total lens ≤ length bytes) × (length lens ≤ 126)
+Usable key bytes lens = (isKeyLength (length key) ≡ true) × Walkable bytes lens
 
 -- everything that a whole call does: number, length and work, and the last contents of output and scratch
 pub record CallResult : Type 0 where
@@ -61,6 +65,10 @@ pub record DidCall (result : CallResult) (report : Report) (lastOutput lastScrat
   pub scratch : lastScratch ≡ result .scratch
 
 module _ (key bytes lens input output scratch : List ℕ) where
+  -- the scratch that n bytes need, wiped
+  abbrev wiped : ℕ → List ℕ
+  wiped n = put scratch 0 (replicate (scratchNeed n) 0)
+
   -- sealing's refusals, and the number that it returns
   abbrev pub sealTable : List Row
   sealTable = headerRows (length key) lens (length bytes) ++ sealRows (length input) (length output) (length scratch)
@@ -68,16 +76,17 @@ module _ (key bytes lens input output scratch : List ℕ) where
   unfoldable pub sealNumber : ℕ
   sealNumber = first sealTable
 
-  -- sealing: input is the plaintext
-  unfoldable pub sealCall : CallResult
-  sealCall =
-      let n = length input in
-      let done = eqb sealNumber 0 in
+  -- what sealing leaves: input is the plaintext
+  abbrev pub sealedCall : CallResult
+  sealedCall =
       record {
-        outcome = record { number = sealNumber; count = cond done (n + 16) 0; work = cond done (sealedWork key (strings bytes lens) input) 0 };
-        output = cond done (put output 0 (sealed key (strings bytes lens) input)) output;
-        scratch = cond done (put scratch 0 (replicate (scratchNeed n) 0)) scratch;
+        outcome = success (length input + 16) (sealedWork key (strings bytes lens) input);
+        output = put output 0 (sealed key (strings bytes lens) input);
+        scratch = wiped (length input);
       }
+
+  unfoldable pub sealCall : CallResult
+  sealCall = settle sealNumber sealedCall (λ n. refusedCall n output scratch)
 
   -- opening's refusals, and the number that it returns
   abbrev pub openTable : List Row
@@ -88,23 +97,22 @@ module _ (key bytes lens input output scratch : List ℕ) where
   unfoldable pub openNumber : ℕ
   openNumber = first openTable
 
-  -- opening: input is the sealed string
-  unfoldable pub openCall : CallResult
-  openCall =
+  -- what opening leaves of a genuine string, and of a forged one: input is the sealed string
+  abbrev pub openedCall : CallResult
+  openedCall =
       let n = length input - 16 in
-      let done = eqb openNumber 0 in
-      let forged = eqb openNumber 8 in
-      record {
-        outcome = record { number = openNumber; count = cond done n 0; work = cond (done || forged) (genuineWork key (strings bytes lens) input) 0 };
-        output = cond done (put output 0 (opened key input)) (cond forged (put output 0 (replicate n 0)) output);
-        scratch = cond (done || forged) (put scratch 0 (replicate (scratchNeed n) 0)) scratch;
-      }
+      record { outcome = success n (genuineWork key (strings bytes lens) input); output = put output 0 (opened key input); scratch = wiped n }
 
--- a lent slice, as it came (`entry`) and as it is left (`exit`)
-abbrev pub Lent : Type 0
-Lent = Both (RefT (List ℕ)) (RefT (List ℕ))
+  abbrev pub forgedCall : CallResult
+  forgedCall =
+      let n = length input - 16 in
+      record { outcome = forged (genuineWork key (strings bytes lens) input); output = put output 0 (replicate n 0); scratch = wiped n }
 
--- what a whole call promises: with what the lent slices held at entry, its report and what output and scratch hold at exit are the definition's
+  unfoldable pub openCall : CallResult
+  openCall = settle openNumber openedCall (forgedOr forgedCall (λ n. refusedCall n output scratch))
+
+-- what a whole call promises: with what the lent slices held at entry,
+-- its report and what output and scratch hold at exit are the definition's
 abbrev pub Performs : (List ℕ → List ℕ → List ℕ → List ℕ → List ℕ → List ℕ → CallResult) → Lent → Lent → Lent → Lent → Lent → Lent → Report → Type 0
 Performs call key header lens input output scratch report =
     DidCall (call (now (key .entry)) (now (header .entry)) (now (lens .entry)) (now (input .entry)) (now (output .entry)) (now (scratch .entry))) report

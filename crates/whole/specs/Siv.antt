@@ -1,13 +1,18 @@
--- AES-SIV, RFC 5297, 2.6 and 2.7, under a key of two halves; beside what calls the cipher stands its work, the number of these calls.
+-- AES-SIV, RFC 5297, 2.6 and 2.7, under a key of two halves;
+-- beside what calls the cipher stands its work, the number of these calls.
 -- Assumes nothing.
+use mathlib.Core.Path.{_≡_}
 use mathlib.Core.Bool.{Bool}
 use mathlib.Core.List.{List, _++_}
-use Prim.Native.Nat.{ℕ, _+_, _/_}
+use Prim.Native.Nat.{ℕ, _+_, _/_, _≤_}
 use lib.ListN.{length, take, drop}
-use Rattle.octets.specs.Octets.{same}
+use Rattle.octets.specs.Octets.{same, Lent, Writes}
+use Rattle.aes.specs.declared.Counted.{Counted}
 use Rattle.aes.specs.Aes.{aes}
+use Rattle.aes.specs.Work.{Reports}
 use Rattle.s2v.specs.S2v.{s2v, s2vWork}
 use Rattle.keystream.specs.KeyStream.{keyStreamWork, xorStream}
+use Rattle.whole.specs.declared.Verdict.{Verdict}
 
 -- 2.6: the first half of the key serves S2V, the second half the counter
 abbrev pub macKey : List ℕ → List ℕ
@@ -50,3 +55,17 @@ genuine key ss y = same (tagOf key ss (opened key y)) (take 16 y)
 -- its work, and that of `opened`
 unfoldable pub genuineWork : List ℕ → List (List ℕ) → List ℕ → ℕ
 genuineWork key ss y = streamedWork (drop 16 y) + tagOfWork key ss (opened key y)
+
+-- r is the tag, made with its work
+abbrev pub IsTag : List ℕ → List (List ℕ) → List ℕ → Counted → Type 0
+IsTag key ss p r = Reports (tagOf key ss p) (tagOfWork key ss p) r
+
+-- 2.7: what decrypting to the front of a scratch and recomputing the tag promise
+pub record Decrypts (key : List ℕ) (ss : List (List ℕ)) (y : List ℕ) (scratch : Lent) (verdict : Verdict) : Type 0 where
+  pub judged : verdict .genuine ≡ genuine key ss y
+  pub work : verdict .work ≡ genuineWork key ss y
+  pub text : Writes scratch 0 (opened key y)
+
+-- a sealed string has a tag, and a scratch room for the plaintext
+abbrev pub Openable : List ℕ → List ℕ → Type 0
+Openable y scratch = (16 ≤ length y) × (length y ≤ 16 + length scratch)

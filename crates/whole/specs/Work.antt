@@ -8,7 +8,8 @@ use lib.ListN.{length}
 use Rattle.header.specs.Blocks.{sixteenths, blocksOf, blocksOfAll}
 use Rattle.whole.specs.Calls.{limit}
 
--- 2, for L and the CMAC of the zero block; the blocks of the header strings and of the plaintext; and the plaintext's length divided by 16, rounded up
+-- 2, for L and the CMAC of the zero block; the blocks of the header strings and of the plaintext;
+-- and the plaintext's length divided by 16, rounded up
 abbrev pub workBehind : ℕ → ℕ → ℕ
 workBehind headerBlocks n = 2 + headerBlocks + blocksOf n + sixteenths n
 

@@ -1,4 +1,4 @@
--- Laws of the worst header list: no list of such lengths has more blocks than `peak`, and one that has as many is worst.
+-- Laws of the worst header list: no list of such lengths has more blocks than `peak`; one that has as many is worst.
 -- Assumes nothing.
 use mathlib.Core.Path.{_≡_, refl, ap, ap₂, sym, subst, _∙_}
 use mathlib.Core.Bool.{Bool, true, false, not, false≢true, cond, _||_, and-eq-true-iff}
@@ -85,7 +85,8 @@ times-less k n h = let next : k ≡ suc (k - 1) = omega arith in ap (λ (m : ℕ
 
 -- ---- no list has more blocks
 
--- the blocks that no list passes: one for each string, and one more for every 16 bytes beyond the first byte, or beyond the k bytes that a least of 1 takes
+-- the blocks that no list passes: one for each string, and one more for every 16 bytes beyond the first byte,
+-- or beyond the k bytes that a least of 1 takes
 abbrev peak : ℕ → ℕ → ℕ → ℕ
 peak h k least = k + (h - max 1 (k * least)) / 16
 

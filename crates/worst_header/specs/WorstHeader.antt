@@ -1,4 +1,5 @@
--- The worst header list, "the dearest header list" of slip 6 of document 02: of all lists of k lengths that sum to h, each at least a least length, one whose strings have the most blocks.
+-- The worst header list, "the dearest header list" of slip 6 of document 02: of all lists of k lengths that sum to h,
+-- each at least a least length, one whose strings have the most blocks.
 -- Assumes nothing.
 use mathlib.Core.Path.{_≡_}
 use mathlib.Core.Bool.{Bool, not, _&&_, _||_}
@@ -14,7 +15,7 @@ use Rattle.answers.specs.Answer.{Outcome, refusal, Row, row, first}
 abbrev pub mostBytes : ℕ
 mostBytes = 1048576
 
--- whether a list is planned: k is 1 to 126, the least length is 0 or 1, h is within its bound and not below k times the least
+-- whether a list is planned: k is 1 to 126, the least 0 or 1, h within its bound and not below k times the least
 unfoldable pub isPlan : ℕ → ℕ → ℕ → Bool
 isPlan h k least = not (ltb k 1) && not (ltb 126 k) && (eqb least 0 || eqb least 1) && not (ltb mostBytes h) && not (ltb h (k * least))
 
@@ -33,14 +34,14 @@ pub record Composes (h k least : ℕ) (lens : List ℕ) : Type 0 where
   pub sum : total lens ≡ h
   pub each : AllAtLeast least lens
 
--- 126 places whose first k are such a list, those past k zero, and its blocks; every other such list has at most as many
+-- 126 places whose first k are such a list, those past k zero, and its blocks; no other such list has more
 pub record IsWorst (h k least : ℕ) (places : List ℕ) (blocks : ℕ) : Type 0 where
   pub composes : Composes h k least (take k places)
   pub past : drop k places ≡ replicate (126 - k) 0
   pub counted : blocks ≡ blocksOfAll (take k places)
   pub most : (other : List ℕ) → Composes h k least other → blocksOfAll other ≤ blocks
 
--- what the call promises: that, or 12 with list and blocks zero. Which of several equally dear lists is given stays open
+-- what the call promises: that, or 12 with list and blocks zero. Which of several worst lists is given stays open
 pub record GivesWorst (h k least : ℕ) (outcome : Outcome) (places : List ℕ) (blocks : ℕ) : Type 0 where
   pub answer : outcome ≡ refusal (first (planRows h k least))
   pub done : first (planRows h k least) ≡ 0 → IsWorst h k least places blocks

@@ -1,4 +1,4 @@
-// The worst header list: how many blocks the header strings of a record can have at the most, and a list of lengths that has them.
+// The worst header list: how many blocks a record's header strings can have at the most, and lengths that have them.
 ghost use mathlib.Core.Path.{_≡_};
 ghost use mathlib.Core.List.{_∷_, _++_};
 ghost use Prim.Native.Nat.{_+_, _-_, _≤_};
@@ -12,14 +12,15 @@ use answers::Refusal;
 // The most header bytes.
 pub const MOST_BYTES: usize = 1048576;
 
-// An answer, a list of lengths, those past its count zero, and how many blocks its strings have. After a refusal all lengths and the blocks are zero.
+// An answer, a list of lengths, those past its count zero, and how many blocks its strings have.
+// After a refusal all lengths and the blocks are zero.
 pub struct HeaderList {
     pub answer: Answer,
     pub lens: [u32; 126],
     pub blocks: usize,
 }
 
-// Whether a list is planned for these figures. The count and the least are judged first, so that their product is small.
+// Whether a list is planned for these figures. Count and least are judged first, so that their product is small.
 fn is_plan(header_len: usize, count: usize, least: usize) -> bool
     ensures { λ r. ⌜ r ≡ isPlan «header_len» count least ⌝ }
 {
@@ -65,7 +66,8 @@ fn list_of(first: u32, count: usize, others: u32) -> [u32; 126]
 }
 
 // Of all lists of count lengths that sum to header_len, none under the least, one with the most blocks.
-// Every string has a block, and each further one takes 16 bytes beyond a string's first; so one string takes all that the others can leave.
+// Every string has a block, and each further one takes 16 bytes beyond a string's first;
+// so one string takes all that the others can leave.
 pub fn header_list(header_len: usize, count: usize, least: usize) -> HeaderList
     ensures { λ r. ⌜ GivesWorst «header_len» count least (outcomeOf (r .answer) 0) (r .lens) (r .blocks) ⌝ }
 {

@@ -29,9 +29,8 @@ div-result c = search needs
 
 returns-3 : tie.Need-returns-3
 returns-3 c =
-    let args = c .before .before .args in
-    let k = args .key-len in
-    let n = args .ring-len in
+    let k = c .before .before .args .key-len in
+    let n = c .before .before .args .ring-len in
     let whole : n ≡ n / k * k = omega (arith, div-add-mod' n k) in
     let some : 1 ≤ n / k = pos-of-ne-zero (λ z. omega (arith, whole ∙ ap (λ (m : ℕ). m * k) z ∙ zero-mul k)) in
     bool-ext _ _ (λ e. whole-ring k (n / k) n (c .before .before .pre) whole some (leb-true (n / k) 4 e) .0)

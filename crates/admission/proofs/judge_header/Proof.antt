@@ -29,12 +29,4 @@ returns-4 c = simp (sym (ap not (c .before .before .before .before .before .is-k
 
 pub judge-header-spec : {M : Type 1} → statement M
 judge-header-spec =
-    tie.close
-    (tie.spec
-    is-key-len-requires
-    returns
-    too-many-requires
-    returns-2
-    sums-to-requires
-    returns-3
-    returns-4)
+    tie.close (tie.spec is-key-len-requires returns too-many-requires returns-2 sums-to-requires returns-3 returns-4)

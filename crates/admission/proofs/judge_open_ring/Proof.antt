@@ -1,10 +1,9 @@
 -- `admission::judge_open_ring` meets its contract.
 -- Assumes nothing.
 use mathlib.Core.Path.{refl, _∙_}
-use mathlib.Core.List.{_++_}
 use borrow.Author.Needs.{needs}
 use Rattle.answers.proofs.Laws.{still-due, next-due}
-use Rattle.whole.specs.Calls.{headerRows, openRows}
+use Rattle.whole.specs.Calls.{openingRows}
 use Rattle.whole.specs.Ring.{ringRows}
 use Rattle.admission.proofs.judge_open_ring.Statement.{statement}
 use Rattle.admission.proofs.judge_open_ring.Tie as tie
@@ -19,7 +18,7 @@ returns : tie.Need-returns
 returns c =
     let args = c .before .before .before .before .args in
     still-due (c .before .before .judge-ring .result) (ringRows (args .key-len) (args .ring-len))
-    (headerRows (args .key-len) (args .lens .now) (args .header-len) ++ openRows (args .y) (args .output) (args .scratch)) (c .before .match .keys1)
+    (openingRows (args .key-len) (args .lens .now) (args .header-len) (args .y) (args .output) (args .scratch)) (c .before .match .keys1)
     (c .before .before .judge-ring .ensures)
 
 enum-told-2 : tie.Need-enum-told-2
@@ -33,7 +32,7 @@ returns-2 c =
     let args = c .before .before .before .before .before .args in
     c .judge-open .ensures
     ∙ next-due (c .before .before .before .judge-ring .result) (ringRows (args .key-len) (args .ring-len))
-    (headerRows (args .key-len) (args .lens .now) (args .header-len) ++ openRows (args .y) (args .output) (args .scratch)) refl (c .before .before .match .keys2)
+    (openingRows (args .key-len) (args .lens .now) (args .header-len) (args .y) (args .output) (args .scratch)) refl (c .before .before .match .keys2)
     (c .before .before .before .judge-ring .ensures)
 
 pub judge-open-ring-spec : {M : Type 1} → statement M

@@ -1,7 +1,5 @@
 -- `admission::judge_plaintext` meets its contract.
 -- Assumes nothing.
-use mathlib.Core.Path.{subst}
-use Prim.Native.Nat.{ℕ, _<_, _≤_}
 use borrow.Author.Needs.{needs}
 use borrow.Author.Tests.{lt-ltb, le-ltb}
 use Rattle.admission.proofs.judge_plaintext.Statement.{statement}
@@ -21,15 +19,11 @@ scratch-need-requires c κs = search needs
 
 returns-3 : tie.Need-returns-3
 returns-3 c =
-    let args = c .before .before .before .before .args in
-    let short = subst (λ (m : ℕ). args .scratch < m) (c .before .scratch-need .ensures) (c .if3 .taken) in
-    simp (le-ltb _ _ (c .before .before .before .if1 .left), le-ltb _ _ (c .before .before .if2 .left), lt-ltb _ _ short)
+    simp (le-ltb _ _ (c .before .before .before .if1 .left), le-ltb _ _ (c .before .before .if2 .left), lt-ltb _ _ (rw (c .before .scratch-need .ensures) at (c .if3 .taken)))
 
 returns-4 : tie.Need-returns-4
 returns-4 c =
-    let args = c .before .before .before .before .args in
-    let enough = subst (λ (m : ℕ). m ≤ args .scratch) (c .before .scratch-need .ensures) (c .if3 .left) in
-    simp (le-ltb _ _ (c .before .before .before .if1 .left), le-ltb _ _ (c .before .before .if2 .left), le-ltb _ _ enough)
+    simp (le-ltb _ _ (c .before .before .before .if1 .left), le-ltb _ _ (c .before .before .if2 .left), le-ltb _ _ (rw (c .before .scratch-need .ensures) at (c .if3 .left)))
 
 pub judge-plaintext-spec : {M : Type 1} → statement M
 judge-plaintext-spec =

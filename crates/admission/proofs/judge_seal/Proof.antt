@@ -34,11 +34,4 @@ returns-2 c =
 
 pub judge-seal-spec : {M : Type 1} → statement M
 judge-seal-spec =
-    tie.close
-    (tie.spec
-    judge-header-requires
-    enum-told
-    returns
-    enum-told-2
-    judge-plaintext-requires
-    returns-2)
+    tie.close (tie.spec judge-header-requires enum-told returns enum-told-2 judge-plaintext-requires returns-2)

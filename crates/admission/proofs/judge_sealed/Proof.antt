@@ -1,7 +1,5 @@
 -- `admission::judge_sealed` meets its contract.
 -- Assumes nothing.
-use mathlib.Core.Path.{subst}
-use Prim.Native.Nat.{ℕ, _<_, _≤_}
 use borrow.Author.Needs.{needs}
 use borrow.Author.Tests.{lt-ltb, le-ltb}
 use Rattle.admission.proofs.judge_sealed.Statement.{statement}
@@ -24,14 +22,12 @@ scratch-need-requires c κs = search needs
 
 returns-4 : tie.Need-returns-4
 returns-4 c =
-    let args = c .before .before .before .before .before .args in
-    let short = subst (λ (m : ℕ). args .scratch < m) (c .before .scratch-need .ensures) (c .if4 .taken) in
+    let short = rw (c .before .scratch-need .ensures) at (c .if4 .taken) in
     simp (le-ltb _ _ (c .before .before .before .before .if1 .left), le-ltb _ _ (c .before .before .before .if2 .left), le-ltb _ _ (c .before .before .if3 .left), lt-ltb _ _ short)
 
 returns-5 : tie.Need-returns-5
 returns-5 c =
-    let args = c .before .before .before .before .before .args in
-    let enough = subst (λ (m : ℕ). m ≤ args .scratch) (c .before .scratch-need .ensures) (c .if4 .left) in
+    let enough = rw (c .before .scratch-need .ensures) at (c .if4 .left) in
     simp (le-ltb _ _ (c .before .before .before .before .if1 .left), le-ltb _ _ (c .before .before .before .if2 .left), le-ltb _ _ (c .before .before .if3 .left), le-ltb _ _ enough)
 
 pub judge-sealed-spec : {M : Type 1} → statement M

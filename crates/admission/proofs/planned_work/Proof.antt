@@ -51,14 +51,5 @@ returns-3 c =
 pub planned-work-spec : {M : Type 1} → statement M
 planned-work-spec =
     tie.close
-    (tie.spec
-    too-many-requires
-    returns
-    returns-2
-    of-all-requires
-    add-result
-    of-requires
-    add-result-2
-    add-result-3
-    add-result-4
-    returns-3)
+    (tie.spec too-many-requires returns returns-2 of-all-requires add-result of-requires add-result-2 add-result-3
+    add-result-4 returns-3)

@@ -56,4 +56,7 @@ returns c =
     }
 
 pub encrypt-spec : {M : Type 1} → statement M
-encrypt-spec = tie.close (tie.spec add-last state-of-requires round-key-requires add-requires sub-middle-rounds middle-rounds-requires round-key-requires-2 last-round-requires block-of-requires returns)
+encrypt-spec =
+    tie.close
+    (tie.spec add-last state-of-requires round-key-requires add-requires sub-middle-rounds middle-rounds-requires
+    round-key-requires-2 last-round-requires block-of-requires returns)

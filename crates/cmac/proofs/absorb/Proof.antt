@@ -28,5 +28,4 @@ returns c =
     }
 
 pub absorb-spec : {M : Type 1} → statement M
-absorb-spec =
-    tie.close (tie.spec mul-load load-requires xor-block-requires encrypt-requires returns)
+absorb-spec = tie.close (tie.spec mul-load load-requires xor-block-requires encrypt-requires returns)

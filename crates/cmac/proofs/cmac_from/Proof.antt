@@ -1,4 +1,5 @@
--- `cmac::cmac_from` meets its contract: of one block, and of blocks that are chained before the last. `last` stands alone so that a wrong chain is refused by its name.
+-- `cmac::cmac_from` meets its contract: of one block, and of blocks that are chained before the last.
+-- `last` stands alone so that a wrong chain is refused by its name.
 -- Assumes nothing.
 use mathlib.Core.Path.{_≡_, sym, ap, ap₂, _∙_}
 use mathlib.Core.List.{List}
@@ -93,17 +94,5 @@ returns-2 c =
 pub cmac-from-spec : {M : Type 1} → statement M
 cmac-from-spec =
     tie.close
-    (tie.spec
-    blocks-before-requires
-    xor-last-requires
-    encrypt-requires
-    returns
-    chain-blocks-requires
-    mul-at
-    sub-xor-last
-    part-xor-last-start
-    part-xor-last-end
-    xor-last-requires-2
-    encrypt-requires-2
-    add-t13
-    returns-2)
+    (tie.spec blocks-before-requires xor-last-requires encrypt-requires returns chain-blocks-requires mul-at
+    sub-xor-last part-xor-last-start part-xor-last-end xor-last-requires-2 encrypt-requires-2 add-t13 returns-2)

@@ -28,5 +28,4 @@ unfolding double
 returns-2 c = simp (le-ltb _ _ (c .before .if1 .left)) (c .xor-block .ensures ∙ ap (λ (l : List ℕ). xors l R) (c .before .before .shift-left .ensures))
 
 pub double-spec : {M : Type 1} → statement M
-double-spec =
-    tie.close (tie.spec shift-left-requires array-read-if1 returns xor-block-requires returns-2)
+double-spec = tie.close (tie.spec shift-left-requires array-read-if1 returns xor-block-requires returns-2)

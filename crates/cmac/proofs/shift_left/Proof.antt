@@ -59,19 +59,6 @@ returns c =
 pub shift-left-spec : {M : Type 1} → statement M
 shift-left-spec =
     tie.close
-    (tie.spec
-    Inv-loop
-    μ-loop
-    loop-holds
-    array-read-shifted-byte
-    add-shifted-byte
-    array-read-shifted-byte-2
-    shifted-byte-requires
-    array-write-r
-    add-i
-    loop-less
-    loop-again
-    array-read-shifted-byte-3
-    shifted-byte-requires-2
-    array-write-r-2
-    returns)
+    (tie.spec Inv-loop μ-loop loop-holds array-read-shifted-byte add-shifted-byte array-read-shifted-byte-2
+    shifted-byte-requires array-write-r add-i loop-less loop-again array-read-shifted-byte-3 shifted-byte-requires-2
+    array-write-r-2 returns)

@@ -56,11 +56,5 @@ returns-2 c =
 pub xor-last-spec : {M : Type 1} → statement M
 xor-last-spec =
     tie.close
-    (tie.spec
-    load-requires
-    xor-block-requires
-    xor-block-requires-2
-    returns
-    xor-padded-requires
-    xor-block-requires-3
+    (tie.spec load-requires xor-block-requires xor-block-requires-2 returns xor-padded-requires xor-block-requires-3
     returns-2)

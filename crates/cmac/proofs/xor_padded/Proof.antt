@@ -58,16 +58,5 @@ returns c =
 pub xor-padded-spec : {M : Type 1} → statement M
 xor-padded-spec =
     tie.close
-    (tie.spec
-    Inv-loop
-    μ-loop
-    loop-holds
-    array-read-r
-    shared-slice-read-r
-    array-write-r
-    add-i
-    loop-less
-    loop-again
-    array-read-r-2
-    array-write-r-2
-    returns)
+    (tie.spec Inv-loop μ-loop loop-holds array-read-r shared-slice-read-r array-write-r add-i loop-less loop-again
+    array-read-r-2 array-write-r-2 returns)

@@ -37,13 +37,4 @@ returns-2 c = left-none _ _ _ _ (c .before .loop .inv) (search needs)
 pub sums-to-spec : {M : Type 1} → statement M
 sums-to-spec =
     tie.close
-    (tie.spec
-    Inv-loop
-    μ-loop
-    loop-holds
-    length-at-requires
-    returns
-    add-i
-    loop-less
-    loop-again
-    returns-2)
+    (tie.spec Inv-loop μ-loop loop-holds length-at-requires returns add-i loop-less loop-again returns-2)

@@ -90,23 +90,6 @@ returns c =
 pub xor-blocks-spec : {M : Type 1} → statement M
 xor-blocks-spec =
     tie.close
-    (tie.spec
-    Inv-loop
-    μ-loop
-    loop-holds
-    add-xor-with-block
-    mul-xor-with-block
-    mul-xor-with-block-2
-    add-xor-with-block-2
-    sub-xor-with-block
-    part-xor-with-block-start
-    part-xor-with-block-end
-    mul-xor-with-block-3
-    add-xor-with-block-3
-    xor-with-block-requires
-    add-work
-    add-j
-    loop-less
-    loop-again
-    same-length
-    returns)
+    (tie.spec Inv-loop μ-loop loop-holds add-xor-with-block mul-xor-with-block mul-xor-with-block-2 add-xor-with-block-2
+    sub-xor-with-block part-xor-with-block-start part-xor-with-block-end mul-xor-with-block-3 add-xor-with-block-3
+    xor-with-block-requires add-work add-j loop-less loop-again same-length returns)

@@ -29,13 +29,11 @@ returns c =
     let args = wrote .before .before .before .before .args in
     let src = args .src .now in
     let E = cipher (args .width) (args .keys .now) in
-    let whole = wrote .xor-blocks .ensures in (
-      record {
-        block = begunBlock-whole E (args .v) (args .i) (length src) (omega (arith, none)) ∙ sym (keptAfter-fresh E (length-cipher _ _) (args .v) (args .i) (length src));
-        work = omega (arith, none, whole .0 ∙ stream-work (length src / 16), pieceWork-fresh (args .i) (length src) ∙ key-stream-work (length src));
-      },
-      xorStream-all _ _ _ _ _ src (16 * (length src / 16)) (omega (arith, none)) (whole .1) ∙ ap (put (args .dst .now) (args .at)) (sym (xorPiece-fresh E (length-cipher _ _) (args .v) (args .i) src)),
-    )
+    let whole = wrote .xor-blocks .ensures in
+    record {
+      kept = record { block = begunBlock-whole E (args .v) (args .i) (length src) (omega (arith, none)) ∙ sym (keptAfter-fresh E (length-cipher _ _) (args .v) (args .i) (length src)); work = omega (arith, none, whole .0 ∙ stream-work (length src / 16), pieceWork-fresh (args .i) (length src) ∙ key-stream-work (length src)) };
+      text = xorStream-all _ _ _ _ _ src (16 * (length src / 16)) (omega (arith, none)) (whole .1) ∙ ap (put (args .dst .now) (args .at)) (sym (xorPiece-fresh E (length-cipher _ _) (args .v) (args .i) src));
+    }
 
 add-xor-with-block : tie.Need-add-xor-with-block
 add-xor-with-block c = search needs
@@ -80,29 +78,15 @@ returns-2 c =
     let E = cipher (args .width) (args .keys .now) in
     let whole = wrote .xor-blocks .ensures in
     let end = called .xor-with-block .ensures in
-    let text = xorStream-joined E (length-cipher _ _) _ _ _ (16 * args .i) src (16 * (length src / 16)) (omega arith) (omega arith) (omega arith) (whole .1) (end .1) in (
-      record {
-        block = begunBlock-short E (args .v) (args .i) (length src) (λ z. some (omega (arith, z))) (end .0 .block) ∙ sym (keptAfter-fresh E (length-cipher _ _) (args .v) (args .i) (length src));
-        work = omega (arith, some, end .0 .work, whole .0 ∙ stream-work (length src / 16), pieceWork-fresh (args .i) (length src) ∙ key-stream-work (length src));
-      },
-      text ∙ ap (put (args .dst .now) (args .at)) (sym (xorPiece-fresh E (length-cipher _ _) (args .v) (args .i) src)),
-    )
+    let text = xorStream-joined E (length-cipher _ _) _ _ _ (16 * args .i) src (16 * (length src / 16)) (omega arith) (omega arith) (omega arith) (whole .1) (end .1) in
+    record {
+      kept = record { block = begunBlock-short E (args .v) (args .i) (length src) (λ z. some (omega (arith, z))) (end .0 .block) ∙ sym (keptAfter-fresh E (length-cipher _ _) (args .v) (args .i) (length src)); work = omega (arith, some, end .0 .work, whole .0 ∙ stream-work (length src / 16), pieceWork-fresh (args .i) (length src) ∙ key-stream-work (length src)) };
+      text = text ∙ ap (put (args .dst .now) (args .at)) (sym (xorPiece-fresh E (length-cipher _ _) (args .v) (args .i) src));
+    }
 
 pub xor-from-spec : {M : Type 1} → statement M
 xor-from-spec =
     tie.close
-    (tie.spec
-    xor-blocks-requires
-    same-length
-    returns
-    add-xor-with-block
-    mul-xor-with-block
-    sub-xor-with-block
-    part-xor-with-block-start
-    part-xor-with-block-end
-    mul-xor-with-block-2
-    add-xor-with-block-2
-    xor-with-block-requires
-    add-t13
-    same-length-2
-    returns-2)
+    (tie.spec xor-blocks-requires same-length returns add-xor-with-block mul-xor-with-block sub-xor-with-block
+    part-xor-with-block-start part-xor-with-block-end mul-xor-with-block-2 add-xor-with-block-2 xor-with-block-requires
+    add-t13 same-length-2 returns-2)

@@ -42,17 +42,11 @@ returns c =
     let count : made .before .counter-block .result ≡ counterBlock (initialCounter (args .v)) (args .i) = made .before .counter-block .ensures ∙ ap (λ (q : List ℕ). counterBlock q (args .i)) (made .before .before .initial-counter .ensures) in
     let block = made .encrypt .ensures .block ∙ ap (cipher _ _) count in (
       record { block = block; work = made .encrypt .ensures .work },
-      xorStream-piece _ (length-cipher (args .width) (args .keys .now)) _ _ _ _ _ (start .pre .2) block (wrote .xor-at .ensures),
+      xorStream-piece _ (length-cipher (args .width) (args .keys .now)) _ _ _ _ _ (start .pre .1) block (wrote .xor-at .ensures),
     )
 
 pub xor-with-block-spec : {M : Type 1} → statement M
 xor-with-block-spec =
     tie.close
-    (tie.spec
-    initial-counter-requires
-    counter-block-requires
-    encrypt-requires
-    slice-aggregate-xor-at
-    xor-at-requires
-    same-length
-    returns)
+    (tie.spec initial-counter-requires counter-block-requires encrypt-requires slice-aggregate-xor-at xor-at-requires
+    same-length returns)

@@ -1,12 +1,12 @@
 -- `kinphlor::empty_nonce_ring` meets its contract.
 -- Assumes nothing.
-use mathlib.Core.Path.{_≡_, ap, sym, _∙_}
+use mathlib.Core.Path.{ap, sym}
 use mathlib.Core.Bool.{Bool, _&&_}
 use lib.Dec.{eqb}
 use borrow.Author.Needs.{needs}
 use borrow.Author.Tests.{eq-eqb, ne-eqb}
-use Rattle.answers.specs.Answer.{Outcome, first, refusal, outcomeOf}
-use Rattle.answers.proofs.Laws.{told-refused, passed}
+use Rattle.answers.specs.Answer.{first}
+use Rattle.answers.proofs.Laws.{due, passed}
 use Rattle.whole.specs.Ring.{ringRows}
 use Rattle.kinphlor.specs.Interface.{emptyNonceRing}
 use Rattle.kinphlor.proofs.empty_nonce_ring.Statement.{statement}
@@ -15,10 +15,6 @@ use Rattle.kinphlor.proofs.empty_nonce_ring.Tie as tie
 judge-ring-requires : tie.Need-judge-ring-requires
 judge-ring-requires c κs = search needs
 
--- the given ring is what was judged
-judged : (c : tie.After-judge-ring) → outcomeOf (c .judge-ring .result) 0 ≡ refusal (first (ringRows (c .before .args .key-len) (c .before .args .ring-len)))
-judged c = c .judge-ring .ensures
-
 enum-told : tie.Need-enum-told
 enum-told c = search needs
 
@@ -26,9 +22,8 @@ returns : tie.Need-returns
 unfolding emptyNonceRing
 returns c =
     let args = c .before .before .before .args in
-    let due = ne-eqb (first (ringRows (args .key-len) (args .ring-len))) 0
-    (λ z. told-refused (c .before .before .judge-ring .result) (c .before .match .keys1) (ap (λ (o : Outcome). o .number) (judged (c .before .before)) ∙ z)) in
-    sym (ap (λ (t : Bool). t && eqb (args .nonce-len) 0) due)
+    let some = ne-eqb (first (ringRows (args .key-len) (args .ring-len))) 0 (due (c .before .before .judge-ring .result) _ (c .before .match .keys1) (c .before .before .judge-ring .ensures)) in
+    sym (ap (λ (t : Bool). t && eqb (args .nonce-len) 0) some)
 
 enum-told-2 : tie.Need-enum-told-2
 enum-told-2 c = search needs
@@ -37,7 +32,7 @@ returns-2 : tie.Need-returns-2
 unfolding emptyNonceRing
 returns-2 c =
     let args = c .before .before .before .args in
-    let none = eq-eqb (first (ringRows (args .key-len) (args .ring-len))) 0 (passed (c .before .before .judge-ring .result) _ (c .before .match .keys2) (judged (c .before .before))) in
+    let none = eq-eqb (first (ringRows (args .key-len) (args .ring-len))) 0 (passed (c .before .before .judge-ring .result) _ (c .before .match .keys2) (c .before .before .judge-ring .ensures)) in
     sym (ap (λ (t : Bool). t && eqb (args .nonce-len) 0) none)
 
 pub empty-nonce-ring-spec : {M : Type 1} → statement M

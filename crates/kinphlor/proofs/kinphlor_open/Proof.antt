@@ -31,18 +31,13 @@ same-length-2 : tie.Need-same-length-2
 same-length-2 c = search needs
 
 returns-2 : tie.Need-returns-2
-returns-2 c = call-packed _ _ _ _ _ (c .before .before .before .before .before .open .result) (sym (c .before .before .before .before .before .before .before .before .before .before .empty-nonce .ensures) ∙ c .before .before .before .before .before .before .before .before .before .if1 .left) (c .before .before .before .before .before .open .ensures) (c .pack2 .ensures)
+returns-2 c =
+    let called = c .before .before .before .before .before in
+    let tested = called .before .before .before .before in
+    call-packed _ _ _ _ _ _ (sym (tested .before .empty-nonce .ensures) ∙ tested .if1 .left) (called .open .ensures) (c .pack2 .ensures)
 
 pub kinphlor-open-spec : {M : Type 1} → statement M
 kinphlor-open-spec =
     tie.close
-    (tie.spec
-    empty-nonce-requires
-    pack-requires
-    returns
-    slice-aggregate-open
-    open-requires
-    pack-requires-2
-    same-length
-    same-length-2
-    returns-2)
+    (tie.spec empty-nonce-requires pack-requires returns slice-aggregate-open open-requires pack-requires-2
+    same-length same-length-2 returns-2)

@@ -33,20 +33,12 @@ same-length-2 c = search needs
 
 returns-2 : tie.Need-returns-2
 returns-2 c =
-    let tested = c .before .before .before .before .before .before .before .before .before in
     let called = c .before .before .before .before .before in
+    let tested = called .before .before .before .before in
     ring-packed _ _ _ _ _ _ _ _ (called .open-ring .result) (sym (tested .before .empty-nonce-ring .ensures) ∙ tested .if1 .left) (called .open-ring .ensures) (c .pack-ring .ensures)
 
 pub kinphlor-open-ring-spec : {M : Type 1} → statement M
 kinphlor-open-ring-spec =
     tie.close
-    (tie.spec
-    empty-nonce-ring-requires
-    pack-requires
-    returns
-    slice-aggregate-open-ring
-    open-ring-requires
-    pack-ring-requires
-    same-length
-    same-length-2
-    returns-2)
+    (tie.spec empty-nonce-ring-requires pack-requires returns slice-aggregate-open-ring open-ring-requires
+    pack-ring-requires same-length same-length-2 returns-2)

@@ -44,15 +44,5 @@ returns c = written-all _ _ _ _ _ (c .before .loop .inv) (omega arith)
 pub copy-at-spec : {M : Type 1} → statement M
 copy-at-spec =
     tie.close
-    (tie.spec
-    Inv-loop
-    μ-loop
-    loop-holds
-    shared-slice-read-dst
-    add-dst
-    slice-write-dst
-    add-i
-    loop-less
-    loop-again
-    same-length
-    returns)
+    (tie.spec Inv-loop μ-loop loop-holds shared-slice-read-dst add-dst slice-write-dst add-i loop-less loop-again
+    same-length returns)

@@ -12,6 +12,10 @@ use Rattle.octets.proofs.Joined.{part-right, part-left, part-seam}
 use Rattle.octets.proofs.copy_joined.Statement.{statement}
 use Rattle.octets.proofs.copy_joined.Tie as tie
 
+-- the start, seen from where the three branches part
+abbrev start-of : tie.After-shared-slice-known2 → tie.Start
+start-of c = c .before .before .before
+
 sub-from : tie.Need-sub-from
 sub-from c = search needs
 
@@ -35,7 +39,7 @@ same-length c = search needs
 
 returns : tie.Need-returns
 returns c =
-    let args = c .before .before .before .before .before .before .before .before .before .args in
+    let args = start-of (c .before .before .before .before .before .before) .args in
     let a = args .a .now in
     let b = args .b .now in
     c .before .before .copy-at .ensures
@@ -64,7 +68,7 @@ same-length-2 c = search needs
 
 returns-2 : tie.Need-returns-2
 returns-2 c =
-    let args = c .before .before .before .before .before .before .before .before .before .before .args in
+    let args = start-of (c .before .before .before .before .before .before .before) .args in
     let a = args .a .now in
     let b = args .b .now in
     c .before .before .copy-at2 .ensures
@@ -96,7 +100,8 @@ same-length-3 c = search needs
 
 returns-3 : tie.Need-returns-3
 returns-3 c =
-    let args = c .before .before .before .before .before .before .before .before .before .before .before .before .before .before .before .args in
+    let first = c .before .before .before .before .before .before .before in
+    let args = start-of (first .before .before .before .before .before) .args in
     let a = args .a .now in
     let b = args .b .now in
     let dst = args .dst .now in
@@ -105,7 +110,7 @@ returns-3 c =
     let front : length (drop (args .at) a) ≡ k = length-drop (args .at) a in
     let seam : k ≡ 0 + length (drop (args .at) a) = omega arith in
     c .before .before .copy-at4 .ensures
-    ∙ ap (λ (l : List ℕ). put l k rest) (c .before .before .before .before .before .before .before .copy-at3 .ensures ∙ ap (put dst 0) (part-rest a (args .at)))
+    ∙ ap (λ (l : List ℕ). put l k rest) (first .copy-at3 .ensures ∙ ap (put dst 0) (part-rest a (args .at)))
     ∙ ap (λ (m : ℕ). put (put dst 0 (drop (args .at) a)) m rest) seam
     ∙ put-put dst 0 (drop (args .at) a) rest (omega arith)
     ∙ ap (put dst 0) (sym (part-seam a b (args .at) (args .n) (omega arith) (omega arith)))
@@ -113,29 +118,7 @@ returns-3 c =
 pub copy-joined-spec : {M : Type 1} → statement M
 copy-joined-spec =
     tie.close
-    (tie.spec
-    sub-from
-    add-copy-at
-    sub-copy-at
-    part-copy-at-start
-    part-copy-at-end
-    copy-at-requires
-    same-length
-    returns
-    sub-k
-    add-copy-at-2
-    sub-copy-at-2
-    part-copy-at-start-2
-    part-copy-at-end-2
-    copy-at-requires-2
-    same-length-2
-    returns-2
-    sub-copy-at-3
-    part-copy-at-start-3
-    part-copy-at-end-3
-    copy-at-requires-3
-    sub-copy-at-4
-    slice-aggregate-copy-at
-    copy-at-requires-4
-    same-length-3
-    returns-3)
+    (tie.spec sub-from add-copy-at sub-copy-at part-copy-at-start part-copy-at-end copy-at-requires same-length returns
+    sub-k add-copy-at-2 sub-copy-at-2 part-copy-at-start-2 part-copy-at-end-2 copy-at-requires-2 same-length-2 returns-2
+    sub-copy-at-3 part-copy-at-start-3 part-copy-at-end-3 copy-at-requires-3 sub-copy-at-4 slice-aggregate-copy-at
+    copy-at-requires-4 same-length-3 returns-3)

@@ -36,11 +36,5 @@ returns c =
 pub load-spec : {M : Type 1} → statement M
 load-spec =
     tie.close
-    (tie.spec
-    slice-aggregate-copy-at
-    add-copy-at
-    sub-copy-at
-    part-copy-at-start
-    part-copy-at-end
-    copy-at-requires
+    (tie.spec slice-aggregate-copy-at add-copy-at sub-copy-at part-copy-at-start part-copy-at-end copy-at-requires
     returns)

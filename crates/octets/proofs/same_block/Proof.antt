@@ -43,13 +43,4 @@ returns c =
 pub same-block-spec : {M : Type 1} → statement M
 same-block-spec =
     tie.close
-    (tie.spec
-    Inv-loop
-    μ-loop
-    loop-holds
-    array-read-diff
-    array-read-diff-2
-    add-i
-    loop-less
-    loop-again
-    returns)
+    (tie.spec Inv-loop μ-loop loop-holds array-read-diff array-read-diff-2 add-i loop-less loop-again returns)

@@ -49,16 +49,5 @@ returns c = written-all _ _ _ _ _ (c .before .loop .inv) (simp length-xors (omeg
 pub xor-at-spec : {M : Type 1} → statement M
 xor-at-spec =
     tie.close
-    (tie.spec
-    Inv-loop
-    μ-loop
-    loop-holds
-    shared-slice-read-dst
-    shared-slice-read-dst-2
-    add-dst
-    slice-write-dst
-    add-i
-    loop-less
-    loop-again
-    same-length
-    returns)
+    (tie.spec Inv-loop μ-loop loop-holds shared-slice-read-dst shared-slice-read-dst-2 add-dst slice-write-dst add-i
+    loop-less loop-again same-length returns)

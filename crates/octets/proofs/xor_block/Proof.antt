@@ -27,9 +27,4 @@ returns c =
 pub xor-block-spec : {M : Type 1} → statement M
 xor-block-spec =
     tie.close
-    (tie.spec
-    slice-aggregate-xor-at
-    slice-aggregate-xor-at-2
-    slice-aggregate-xor-at-3
-    xor-at-requires
-    returns)
+    (tie.spec slice-aggregate-xor-at slice-aggregate-xor-at-2 slice-aggregate-xor-at-3 xor-at-requires returns)

@@ -40,14 +40,4 @@ returns c = written-all _ _ _ _ _ (c .before .loop .inv) (simp length-replicate 
 pub zero-at-spec : {M : Type 1} → statement M
 zero-at-spec =
     tie.close
-    (tie.spec
-    Inv-loop
-    μ-loop
-    loop-holds
-    add-dst
-    slice-write-dst
-    add-i
-    loop-less
-    loop-again
-    same-length
-    returns)
+    (tie.spec Inv-loop μ-loop loop-holds add-dst slice-write-dst add-i loop-less loop-again same-length returns)

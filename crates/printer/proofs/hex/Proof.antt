@@ -40,14 +40,5 @@ returns c = search needs
 pub hex-spec : {M : Type 1} → statement M
 hex-spec =
     tie.close
-    (tie.spec
-    Inv-loop
-    μ-loop
-    loop-holds
-    shared-slice-read-b
-    cast-print-hex
-    print-hex-requires
-    add-i
-    loop-less
-    loop-again
-    returns)
+    (tie.spec Inv-loop μ-loop loop-holds shared-slice-read-b cast-print-hex print-hex-requires add-i loop-less
+    loop-again returns)

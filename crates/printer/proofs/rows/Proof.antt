@@ -50,18 +50,5 @@ returns c = search needs
 pub rows-spec : {M : Type 1} → statement M
 rows-spec =
     tie.close
-    (tie.spec
-    Inv-loop
-    μ-loop
-    loop-holds
-    sub-row
-    part-row-start
-    part-row-end
-    row-requires
-    sub-rest
-    part-rest-start
-    part-rest-end
-    loop-less
-    loop-again
-    row-requires-2
-    returns)
+    (tie.spec Inv-loop μ-loop loop-holds sub-row part-row-start part-row-end row-requires sub-rest part-rest-start
+    part-rest-end loop-less loop-again row-requires-2 returns)

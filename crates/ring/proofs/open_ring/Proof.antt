@@ -8,7 +8,7 @@ use lib.Dec.{ltb}
 use lib.ListN.{length}
 use borrow.Author.Needs.{needs}
 use Rattle.answers.specs.Answer.{outcomeOf, success, forged}
-use Rattle.answers.proofs.Laws.{told-refused, passed}
+use Rattle.answers.proofs.Laws.{passed}
 use Rattle.whole.specs.Calls.{isKeyLength}
 use Rattle.whole.specs.Ring.{slotCount, slotKey}
 use Rattle.whole.proofs.Laws.{OpenAdmits, open-admits}
@@ -16,27 +16,29 @@ use Rattle.whole.proofs.Ring.{key-length-some, RingWhole, ring-admits, ringJudg
 use Rattle.ring.proofs.open_ring.Statement.{statement}
 use Rattle.ring.proofs.open_ring.Tie as tie
 
+abbrev start-of : tie.At-match-keys2 → tie.Start
+start-of c = c .before .before .before .before .before .before .before .before
+
 -- past the refusals none but 8 was due
 judged : (c : tie.At-match-keys2)
-    → let a = c .before .before .before .before .before .before .before .before .args in
+    → let a = start-of c .args in
     ringJudged (a .key-len) (a .ring .now) (a .header .now) (a .lens .now) (a .input .now) (a .output .now) (a .scratch .now) ≡ 0
 judged c = passed (c .before .judge-open-ring .result) _ (c .match .keys2) (c .before .judge-open-ring .ensures)
 
 -- what they leave of the ring
 whole : (c : tie.At-match-keys2)
-    → let a = c .before .before .before .before .before .before .before .before .args in
+    → let a = start-of c .args in
     (isKeyLength (a .key-len) ≡ true) × RingWhole (a .key-len) (length (a .ring .now))
 whole c =
-    let a = c .before .before .before .before .before .before .before .before .args in
-    ring-admits (a .key-len) (length (a .ring .now))
-    (ring-judged (a .key-len) (a .ring .now) (a .header .now) (a .lens .now) (a .input .now) (a .output .now) (a .scratch .now) (judged c) .0)
+    let a = start-of c .args in
+    ring-admits _ _ (ring-judged (a .key-len) (a .ring .now) (a .header .now) (a .lens .now) (a .input .now) (a .output .now) (a .scratch .now) (judged c) .0)
 
 -- and of the single call, with slot 0's key
 admits : (c : tie.At-match-keys2)
-    → let a = c .before .before .before .before .before .before .before .before .args in
+    → let a = start-of c .args in
     OpenAdmits (slotKey (a .key-len) (a .ring .now) 0) (a .header .now) (a .lens .now) (a .input .now) (a .output .now) (a .scratch .now)
 admits c =
-    let a = c .before .before .before .before .before .before .before .before .args in
+    let a = start-of c .args in
     open-admits _ _ _ _ _ _
     (slot-passed (a .key-len) (a .ring .now) (a .header .now) (a .lens .now) (a .input .now) (a .output .now) (a .scratch .now) (judged c) 0 (whole c .1 .some))
 
@@ -48,7 +50,7 @@ enum-told c = search needs
 
 returns : tie.Need-returns
 returns c =
-    ring-refused _ _ _ _ _ _ _ (c .before .before .judge-open-ring .result) (told-refused (c .before .before .judge-open-ring .result) (c .before .match .keys1)) (c .before .before .judge-open-ring .ensures)
+    ring-refused _ _ _ _ _ _ _ (c .before .before .judge-open-ring .result) (c .before .match .keys1) (c .before .before .judge-open-ring .ensures)
 
 enum-told-2 : tie.Need-enum-told-2
 enum-told-2 c = search needs
@@ -58,8 +60,9 @@ div-slots c = key-length-some _ (whole (c .before) .0)
 
 try-slots-requires : tie.Need-try-slots-requires
 try-slots-requires c κs =
+    let w = whole (c .before .before) in
     let a = admits (c .before .before) in
-    (whole (c .before .before) .0, whole (c .before .before) .1 .whole, whole (c .before .before) .1 .most, omega (arith, a .sums), a .countFits, a .tagged, omega (arith, a .scratchFits))
+    ((w .0, w .1 .whole, w .1 .most), (omega (arith, a .sums), a .countFits), (a .tagged, omega (arith, a .scratchFits)))
 
 given-slot-requires : tie.Need-given-slot-requires
 given-slot-requires c κs = search needs
@@ -75,7 +78,7 @@ release-or-wipe-requires c κs =
 -- the answer is that of a slot that was found, or of none
 told : (c : tie.After-release-or-wipe)
     → let searched = c .before .before .before .before .before .before .before in
-    let a = searched .before .before .before .before .before .before .before .before .before .before .before .args in
+    let a = start-of (searched .before .before .before) .args in
     (w : ℕ) → outcomeOf (c .release-or-wipe .result) w ≡ cond (ltb (searched .try-slots .result .slot) (slotCount (a .key-len) (length (a .ring .now)))) (success (length (a .input .now) - 16) w) (forged w)
 told c = c .release-or-wipe .ensures .0
 
@@ -90,22 +93,12 @@ returns-2 c =
     let done = c .before .before .before .before in
     let given = done .before .before .before .before in
     let searched = given .before .before .before in
-    let search = searched .try-slots .ensures in
-    ring-delivered _ _ _ _ _ _ _ (judged (searched .before .before .before)) _ (search .0) _ _ _ _ (given .given-slot .ensures) refl (search .1 .0) (told done) (done .release-or-wipe .ensures .1 .0) (search .1 .1) (done .release-or-wipe .ensures .1 .1)
+    let tried = searched .try-slots .ensures in
+    let ended = done .release-or-wipe .ensures in
+    ring-delivered _ _ _ _ _ _ _ (judged (searched .before .before .before)) _ (tried .found) _ _ _ _ (given .given-slot .ensures) refl (tried .text) (told done) (ended .1 .0) (tried .rest) (ended .1 .1)
 
 pub open-ring-spec : {M : Type 1} → statement M
 open-ring-spec =
     tie.close
-    (tie.spec
-    judge-open-ring-requires
-    enum-told
-    returns
-    enum-told-2
-    div-slots
-    try-slots-requires
-    given-slot-requires
-    sub-release-or-wipe
-    release-or-wipe-requires
-    same-length
-    same-length-2
-    returns-2)
+    (tie.spec judge-open-ring-requires enum-told returns enum-told-2 div-slots try-slots-requires given-slot-requires
+    sub-release-or-wipe release-or-wipe-requires same-length same-length-2 returns-2)

@@ -1,7 +1,7 @@
 -- `ring::try_slots` meets its contract: where so many slots are left, trying these ends where trying all does.
 -- Assumes nothing.
 use mathlib.Core.Path.{sym, _∙_}
-use Prim.Native.Nat.{ℕ, _+_, _-_, _*_, _≤_, _<_, _^_}
+use Prim.Native.Nat.{ℕ, _+_, _-_, _*_, _≤_, _^_}
 use native.Mathlib.Nat.{le-trans, le-of-eq}
 use native.Mathlib.Omega.{arith}
 use lib.ListN.{length}
@@ -27,6 +27,13 @@ Inv-loop key-len slots ring header lens sealed scratch₀ engine left₀ work₀
 abbrev μ-loop : tie.MeasureT-loop
 μ-loop key-len slots ring header lens sealed scratch₀ engine left₀ work₀ scratch left work = left
 
+-- where a slot is tried, a turn began; and where that is, all began
+abbrev turn-of : tie.After-try-slot Inv-loop μ-loop → tie.Else1 Inv-loop μ-loop
+turn-of c = c .before .before .before
+
+abbrev start-of : tie.Else1 Inv-loop μ-loop → tie.Start Inv-loop μ-loop
+start-of c = c .before .before .before .before .before .before .before .before
+
 engine-requires : tie.Need-engine-requires Inv-loop μ-loop
 engine-requires c κs = search needs
 
@@ -39,36 +46,27 @@ sub-slot c = search needs
 try-slot-requires : tie.Need-try-slot-requires Inv-loop μ-loop
 try-slot-requires c κs =
     let turn = c .before .before in
-    let start = turn .before .before .before .before .before .before .before .before in
+    let start = start-of turn in
+    let ring = start .pre .0 in
     let inv = turn .before .loop .inv in (
       turn .before .before .engine .ensures,
-      start .pre .0,
-      le-trans (slot-within _ (start .args .slots) (start .args .key-len) (omega (arith, turn .if1 .left, inv .within))) (le-of-eq (start .pre .1)),
-      start .pre .3,
-      start .pre .4,
-      start .pre .5,
-      omega (arith, start .pre .6, inv .long),
+      (ring .0, le-trans (slot-within _ (start .args .slots) (start .args .key-len) (omega (arith, turn .if1 .left, inv .within))) (le-of-eq (ring .1))),
+      start .pre .1,
+      (start .pre .2 .0, omega (arith, start .pre .2, inv .long)),
     )
-
-short-header : (start : tie.Start Inv-loop μ-loop) → length (start .args .header .now) < 2 ^ 64
-short-header start = search needs
-
-short-text : (start : tie.Start Inv-loop μ-loop) → length (start .args .sealed .now) < 2 ^ 64
-short-text start = search needs
 
 -- the work of the slot that was tried
 small : (c : tie.After-try-slot Inv-loop μ-loop) → c .try-slot .result .work ≤ most
 small c =
-    let start = c .before .before .before .before .before .before .before .before .before .before .before in
+    let start = start-of (turn-of c) in
     let args = start .args in
-    omega (arith, c .try-slot .ensures .1 .0 ∙ genuine-lengths _ (args .header .now) (args .lens .now) (args .sealed .now) (start .pre .3), blocks-most (args .lens .now), start .pre .3, start .pre .4, short-header start, short-text start)
+    omega (arith, c .try-slot .ensures .work ∙ genuine-lengths _ (args .header .now) (args .lens .now) (args .sealed .now) (start .pre .1 .0), blocks-most (args .lens .now))
 
 add-work : tie.Need-add-work Inv-loop μ-loop
 add-work c =
     let called = c .before .before .before in
-    let turn = called .before .before .before in
-    let start = turn .before .before .before .before .before .before .before .before in
-    omega (arith, small called, turn .before .loop .inv .small, turn .before .loop .inv .within, turn .if1 .left, start .pre .2)
+    let turn = turn-of called in
+    omega (arith, small called, turn .before .loop .inv, start-of turn .pre .0 .2)
 
 sub-left : tie.Need-sub-left Inv-loop μ-loop
 sub-left c = search needs
@@ -79,11 +77,10 @@ loop-less c = search needs
 loop-again : tie.Need-loop-again Inv-loop μ-loop
 loop-again c =
     let called = c .before .before .before .before in
-    let turn = called .before .before .before in
-    let y = turn .before .before .before .before .before .before .before .before .args .sealed .now in
+    let turn = turn-of called in
     let tried = called .try-slot .ensures in
-    trying-more _ _ _ _ _ _ _ _ _ _ _ (turn .before .loop .inv) (turn .if1 .left) (sym (tried .0) ∙ c .if2 .left) (tried .1 .0) (small called) (called .try-slot .kept .1 .1 .1 .1 .1 .1 .1 .0)
-    (put-rest (turn .before .loop .scratch) _ (tried .1 .1) (sym (length-opened _ y)))
+    trying-more _ _ _ _ _ _ _ _ _ _ _ (turn .before .loop .inv) (turn .if1 .left) (sym (tried .judged) ∙ c .if2 .left) (tried .work) (small called) (called .try-slot .kept .1 .1 .1 .1 .1 .1 .1 .0)
+    (put-rest (turn .before .loop .scratch) _ (tried .text) (sym (length-opened _ _)))
 
 same-length : tie.Need-same-length Inv-loop μ-loop
 same-length c = search needs
@@ -91,7 +88,7 @@ same-length c = search needs
 returns : tie.Need-returns Inv-loop μ-loop
 returns c =
     let inv = c .before .loop .inv in
-    (trying-all _ _ _ _ _ _ _ _ _ inv (c .if1 .taken), (λ h. absurd (omega arith), inv .rest))
+    record { found = trying-all _ _ _ _ _ _ _ _ _ inv (c .if1 .taken); text = λ h. absurd (omega arith); rest = inv .rest }
 
 same-length-2 : tie.Need-same-length-2 Inv-loop μ-loop
 same-length-2 c = search needs
@@ -99,33 +96,19 @@ same-length-2 c = search needs
 returns-2 : tie.Need-returns-2 Inv-loop μ-loop
 returns-2 c =
     let called = c .before .before .before .before in
-    let turn = called .before .before .before in
-    let args = turn .before .before .before .before .before .before .before .before .args in
+    let turn = turn-of called in
     let inv = turn .before .loop .inv in
-    let y = args .sealed .now in
-    let tried = called .try-slot .ensures in (
-      trying-found _ _ _ _ _ _ _ _ _ _ inv (turn .if1 .left) (sym (tried .0) ∙ c .if2 .taken) (tried .1 .0),
-      (
-        λ _. tried .1 .1 ∙ put-beyond (args .scratch .now) (turn .before .loop .scratch) _ (length y - 16) (le-of-eq (sym (length-opened _ y))) (inv .rest),
-        put-rest (turn .before .loop .scratch) _ (tried .1 .1) (sym (length-opened _ y)) ∙ inv .rest,
-      ),
-    )
+    let args = start-of turn .args in
+    let long = length-opened _ (args .sealed .now) in
+    let tried = called .try-slot .ensures in
+    record {
+      found = trying-found _ _ _ _ _ _ _ _ _ _ inv (turn .if1 .left) (sym (tried .judged) ∙ c .if2 .taken) (tried .work);
+      text = λ _. tried .text ∙ put-beyond (args .scratch .now) (turn .before .loop .scratch) _ _ (le-of-eq (sym long)) (inv .rest);
+      rest = put-rest (turn .before .loop .scratch) _ (tried .text) (sym long) ∙ inv .rest;
+    }
 
 pub try-slots-spec : {M : Type 1} → statement M
 try-slots-spec =
     tie.close
-    (tie.spec
-    Inv-loop
-    μ-loop
-    engine-requires
-    loop-holds
-    sub-slot
-    try-slot-requires
-    add-work
-    sub-left
-    loop-less
-    loop-again
-    same-length
-    returns
-    same-length-2
-    returns-2)
+    (tie.spec Inv-loop μ-loop engine-requires loop-holds sub-slot try-slot-requires add-work sub-left loop-less
+    loop-again same-length returns same-length-2 returns-2)

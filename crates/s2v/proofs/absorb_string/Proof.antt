@@ -36,6 +36,4 @@ returns c =
     }
 
 pub absorb-string-spec : {M : Type 1} → statement M
-absorb-string-spec =
-    tie.close
-    (tie.spec cmac-from-requires double-requires xor-block-requires add-t12 returns)
+absorb-string-spec = tie.close (tie.spec cmac-from-requires double-requires xor-block-requires add-t12 returns)

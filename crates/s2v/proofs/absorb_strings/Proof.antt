@@ -1,5 +1,8 @@
--- `s2v::absorb_strings` meets its contract: a walk of its MIR, by hand, since a local holds the reader. One reader is made before the loop and moved on in each turn; after i turns i strings are absorbed and the reader stands behind them.
--- The loop's invariant is what is had at the start of turn i. What the values own does not change: a reader owns what bytes owns.
+-- `s2v::absorb_strings` meets its contract: a walk of its MIR, by hand, since a local holds the reader.
+-- One reader is made before the loop and moved on in each turn; after i turns i strings are absorbed and the reader
+-- stands behind them.
+-- The loop's invariant is what is had at the start of turn i.
+-- What the values own does not change: a reader owns what bytes owns.
 -- Assumes nothing.
 use mathlib.Core.Path.{_≡_, refl, sym, ap, _∙_}
 use mathlib.Core.Option.{none, some}
@@ -42,7 +45,7 @@ use denote.Triple.Clauses.{Clauses}
 use denote.Triple.Table.{cited}
 use Rattle.octets.specs.Octets.{xors, part}
 use Rattle.aes.specs.Cipher.{cipher}
-use Rattle.aes.specs.Engine.{Ready}
+use Rattle.aes.specs.Engine.{CanEncrypt}
 use Rattle.aes.specs.declared.Counted.{Counted}
 use Rattle.aes.specs.Work.{Reports}
 use Rattle.aes.proofs.Counted as N
@@ -93,8 +96,8 @@ module _ {M : Type 1} (𝓤 : URA M) (H : Heap 𝓤) (A : Atoms 𝓤) (W : Given
       (knows-moved : Knows 𝓤 H A moved.ended (moved.clauses 𝓤 H A mem run) (𝓣 .C) moved-def.name) (knows-length : Knows 𝓤 H A length-at.ended (length-at.clauses 𝓤 H A mem run) (𝓣 .C) length-def.name)
       (knows-absorb : Knows 𝓤 H A absorb.ended (absorb.clauses 𝓤 H A mem run) (𝓣 .C) absorb-def.name)
       (κ₀ κ₁ κ₂ κ₃ : Lft) (q₀ q₁ q₂ q₃ : Share) (engine : RefT (List ℕ)) (width : ℕ) (keys : RefT (List ℕ)) (k : Subkeys) (d : Counted) (bytes lens : RefT (List ℕ))
-      (asked : Ready (now engine) × (width ≤ 32) × (total (now lens) ≤ length (now bytes)) × (d .work + length (now lens) ≤ 127)) (bytes-fits : length (now bytes) < 2 ^ 64) (lens-fits : length (now lens) < 2 ^ 64) where
-    -- what the function is called with, what its parameters own, and what parameter n owns, also where F is owned before
+      (asked : CanEncrypt (now engine) width × (total (now lens) ≤ length (now bytes)) × (d .work + length (now lens) ≤ 127)) (bytes-fits : length (now bytes) < 2 ^ 64) (lens-fits : length (now lens) < 2 ^ 64) where
+    -- what the function is called with, what its parameters own, what parameter n owns, and that beside an F too
     abbrev y : Binding 𝓤 H A strings-of.ended c
     y = enters 𝓤 H A strings-of.ended c (κ₀, (κ₁, (κ₂, (κ₃, tt)))) (params (κ₀, (κ₁, (κ₂, (κ₃, tt))))) (q₀, (q₁, (q₂, (q₃, tt)))) tt (engine, (width, (keys, (k, (d, (bytes, (lens, tt))))))) tt
 
@@ -119,8 +122,10 @@ module _ {M : Type 1} (𝓤 : URA M) (H : Heap 𝓤) (A : Atoms 𝓤) (W : Given
     fm : FmC 𝓤 H (W .laws) (𝓣 .C)
     fm = fmOf 𝓤 H (W .laws) 𝓣
 
-    -- ---- what the loop carries beside the reader, D and the work: its type, what a walk knows of it, and that it is plain data; what is carried after i turns, which is d at 0, and its
-    -- machine value; what a turn makes of it, and what it is after the last. Beyond these definitions, the code's own lines for it are its start in `walk` and the call of `absorb_string`
+    -- ---- what the loop carries beside the reader, D and the work: its type, what a walk knows of it, and that it is
+    -- plain data; what is carried after i turns, which is d at 0, and its machine value; what a turn makes of it, and
+    -- what it is after the last. Beyond these definitions, the code's own lines for it are its start in `walk` and the
+    -- call of `absorb_string`
     abbrev Carried : RattleType
     Carried = N.the-row
 
@@ -159,7 +164,7 @@ module _ {M : Type 1} (𝓤 : URA M) (H : Heap 𝓤) (A : Atoms 𝓤) (W : Given
         }
 
     carried-most : (i : ℕ) → carried i .work ≤ 2 ^ 62
-    carried-most i = worked-most (d .work) (now bytes) (now lens) i (omega (arith, asked .2)) (asked .3)
+    carried-most i = worked-most (d .work) (now bytes) (now lens) i (omega (arith, asked .1)) (asked .2)
 
     -- ---- the reader after i turns, its machine value and its typing, and what it owns, which is what bytes owns
     abbrev reader : ℕ → Reader
@@ -169,7 +174,7 @@ module _ {M : Type 1} (𝓤 : URA M) (H : Heap 𝓤) (A : Atoms 𝓤) (W : Given
     reader-val i = T′.lowered (reader i)
 
     place-fits : (i : ℕ) → total (take i (now lens)) < 2 ^ 64
-    place-fits i = omega (arith, total-take (now lens) i, asked .2)
+    place-fits i = omega (arith, total-take (now lens) i, asked .1)
 
     reader-typed : (i : ℕ) → Holds (hasTy (T′.mir erased) (reader-val i)) × WT (reader-val i)
     reader-typed i = (tt, ((tt, (record { fits = bytes-fits }, tt)), (record { fits = place-fits i }, tt)))
@@ -182,9 +187,10 @@ module _ {M : Type 1} (𝓤 : URA M) (H : Heap 𝓤) (A : Atoms 𝓤) (W : Given
     to-next i = (((κ₂, tt), (q₂, tt), tt, (reader i, (getD (now lens) i 0, tt)), (reader-val i ∷ [], (vint w64 (getD (now lens) i 0) ∷ [], tt))), tt)
 
     within : (i : ℕ) → i < length (now lens) → total (take i (now lens)) + getD (now lens) i 0 ≤ length (now bytes)
-    within i less = omega (arith, total-next (now lens) i less, asked .2)
+    within i less = omega (arith, total-next (now lens) i less, asked .1)
 
-    -- ---- a turn begins with the number i of those before it, and with what is known of the value carried; the lengths that are left fall
+    -- ---- a turn begins with the number i of those before it, and with what is known of the value carried;
+    -- the lengths that are left fall
     abbrev Turn : Type 0
     Turn = (i : ℕ) × Is Carried (carried i) (carried-val i ∷ [])
 
@@ -250,7 +256,7 @@ module _ {M : Type 1} (𝓤 : URA M) (H : Heap 𝓤) (A : Atoms 𝓤) (W : Given
             lends = lent 𝓤 H A W (0 ∷ 0 ∷ 0 ∷ []) tokens;
             twice = both-twice 𝓤 H A W F Own (a-slice W (named 0) κ₂ u8 .copies .twice s (slice-vals s)) own-twice;
             gives = (own-beside F 0, (own-beside F 1, (own-beside F 2, (own-beside F 3, (made 𝓤 H A Carried carried-plain (carried i) _ (t .1) (fsep F Own), (fst∗ 𝓤 (sem 𝓤 H A F) (sem 𝓤 H A Own), tt))))));
-            met = factI 𝓤 _ (emp 𝓤) (asked .0, asked .1, carried-most i);
+            met = factI 𝓤 _ (emp 𝓤) (asked .0, carried-most i);
           }) a-carried (carried (i + 1)) (λ r ws. fact-mono 𝓤 _ _ (carried-more i less s is-part r))
           (and-then ! (copied ! refl) (and-then ! (copied ! refl) (and-then ! (copied ! refl) (and-then ! (copied ! refl) (and-then ! (copied ! refl) (and-then ! (copied ! refl) (no-more !))))))) (λ is-more.
           lands-over ! refl (a-carried .lawful .typed (carried (i + 1)) _ is-more .0) $ takes ! $ drop ! $
@@ -294,7 +300,7 @@ absorb-strings-spec 𝓤 H 𝓜 𝓖 𝓡 =
     let mem = 𝓜 .mem in
     let run = 𝓡 .run in
     closed 𝓤 H 𝓜 𝓖 𝓡 code.env #s2v·absorb-strings code.function (code.unfolded 𝓤 H 𝓜 𝓡) strings-of.ended (strings-of.clauses 𝓤 H A mem run) (params 𝓤 H A W mem run)
-    (λ κs a. Ready (now (a .0)) × (a .1 .0 ≤ 32) × (total (now (a .1 .1 .1 .1 .1 .1 .0)) ≤ length (now (a .1 .1 .1 .1 .1 .0))) × (a .1 .1 .1 .1 .0 .work + length (now (a .1 .1 .1 .1 .1 .1 .0)) ≤ 127)) (λ κs a g. id⊢ 𝓤 _)
+    (λ κs a. CanEncrypt (now (a .0)) (a .1 .0) × (total (now (a .1 .1 .1 .1 .1 .1 .0)) ≤ length (now (a .1 .1 .1 .1 .1 .0))) × (a .1 .1 .1 .1 .0 .work + length (now (a .1 .1 .1 .1 .1 .1 .0)) ≤ 127)) (λ κs a g. id⊢ 𝓤 _)
     (λ κs qs bounds a g asked are wt. walk 𝓤 H A W mem run (tablesOf 𝓤 H 𝓜 (tables 𝓤 H 𝓜 𝓡 code.env))
     (cited 𝓤 H _ 𝓜 𝓡 code.env new-def.name new-def.routine code.calls-header·reader·new (new-thm.met 𝓤 H 𝓜 𝓖 𝓡))
     (cited 𝓤 H _ 𝓜 𝓡 code.env next-def.name next-def.routine code.calls-header·reader·next (next-thm.met 𝓤 H 𝓜 𝓖 𝓡))

@@ -21,7 +21,7 @@ cmac-from-requires c κs = search needs
 absorb-strings-requires : tie.Need-absorb-strings-requires
 absorb-strings-requires c κs =
     let start = c .before .before .before .before in
-    (search needs, search needs, start .pre .2, omega (arith, c .cmac-from .ensures .work ∙ cmac-work _, start .pre .3))
+    (start .pre .0, start .pre .1 .0, omega (arith, c .cmac-from .ensures .work ∙ cmac-work _, start .pre .1 .1))
 
 returns : tie.Need-returns
 unfolding headerResult headerWork

@@ -42,7 +42,7 @@ tag-from-requires : tie.Need-tag-from-requires
 tag-from-requires c κs =
     let p = c .before .before .before .before .before .args .p .now in
     let t : Tail (length p) = tail (length p) in
-    (search needs, search needs, simp (length-take, length-drop) (omega arith))
+    (search needs, simp (length-take, length-drop) (omega arith))
 
 -- the work of the chain and of the end is that of the whole
 works : (c : tie.After-tag-from) → c .before .before .before .chain-blocks .result .work + c .tag-from .result .work ≡ blocksBefore (length (c .before .before .before .before .before .before .args .p .now)) + 1
@@ -77,13 +77,5 @@ returns c =
 pub tag-spec : {M : Type 1} → statement M
 tag-spec =
     tie.close
-    (tie.spec
-    tail-len-requires
-    sub-at
-    chain-blocks-requires
-    sub-tag-from
-    part-tag-from-start
-    part-tag-from-end
-    tag-from-requires
-    add-t13
-    returns)
+    (tie.spec tail-len-requires sub-at chain-blocks-requires sub-tag-from part-tag-from-start part-tag-from-end
+    tag-from-requires add-t13 returns)

@@ -55,14 +55,14 @@ cmac-from-requires c κs = search needs
 
 returns : tie.Need-returns
 returns c =
-    let written = c .before .before .before .before .xor-at .ensures in
-    let copied = c .before .before .before .before .before .before .before .before .before .copy-at .ensures in
-    let args = c .before .before .before .before .before .before .before .before .before .before .before .before .args in
+    let xored = c .before .before .before .before in
+    let copied = xored .before .before .before .before .before in
+    let args = copied .before .before .before .args in
     let p = args .p .now in
     let d = args .t5 in
     let at : ℕ = length p - 16 in
     let text =
-    ap₂ take (sub-zero (length p)) (written ∙ ap₂ (λ (z s : List ℕ). put z at (xors s d)) copied (part-rest p at))
+    ap₂ take (sub-zero (length p)) (xored .xor-at .ensures ∙ ap₂ (λ (z s : List ℕ). put z at (xors s d)) (copied .copy-at .ensures) (part-rest p at))
     ∙ xorend-buffer (replicate 32 0) p d at (omega arith) (omega arith) in
     let mac = c .cmac-from .ensures in
     record { block = mac .block ∙ ap (cmacFrom _ _ _) text; work = mac .work ∙ ap cmacWork text }
@@ -70,18 +70,6 @@ returns c =
 pub tag-long-spec : {M : Type 1} → statement M
 tag-long-spec =
     tie.close
-    (tie.spec
-    sub-at
-    slice-aggregate-copy-at
-    copy-at-requires
-    slice-aggregate-xor-at
-    sub-xor-at
-    part-xor-at-start
-    part-xor-at-end
-    slice-aggregate-xor-at-2
-    xor-at-requires
-    sub-cmac-from
-    part-cmac-from-start
-    part-cmac-from-end
-    cmac-from-requires
-    returns)
+    (tie.spec sub-at slice-aggregate-copy-at copy-at-requires slice-aggregate-xor-at sub-xor-at part-xor-at-start
+    part-xor-at-end slice-aggregate-xor-at-2 xor-at-requires sub-cmac-from part-cmac-from-start part-cmac-from-end
+    cmac-from-requires returns)

@@ -31,9 +31,4 @@ returns c =
 pub tag-short-spec : {M : Type 1} → statement M
 tag-short-spec =
     tie.close
-    (tie.spec
-    double-requires
-    xor-padded-requires
-    slice-aggregate-cmac-from
-    cmac-from-requires
-    returns)
+    (tie.spec double-requires xor-padded-requires slice-aggregate-cmac-from cmac-from-requires returns)

@@ -17,7 +17,7 @@ slice-aggregate-make-header-result-2 c = search needs
 
 make-header-result-requires : tie.Need-make-header-result-requires
 unfolding total
-make-header-result-requires c κs = (search needs, search needs, omega arith, search needs)
+make-header-result-requires c κs = ((search needs, search needs), (omega arith, search needs))
 
 block-of-requires : tie.Need-block-of-requires
 block-of-requires c κs = search needs
@@ -52,18 +52,6 @@ returns c = search needs
 pub a2-tag-spec : {M : Type 1} → statement M
 a2-tag-spec =
     tie.close
-    (tie.spec
-    a2-header-requires
-    slice-aggregate-make-header-result
-    slice-aggregate-make-header-result-2
-    make-header-result-requires
-    block-of-requires
-    slice-aggregate-long-end
-    long-end-requires
-    slice-aggregate-tag
-    tag-requires
-    block-of-requires-2
-    slice-aggregate-line
-    slice-aggregate-line-2
-    line-requires
-    returns)
+    (tie.spec a2-header-requires slice-aggregate-make-header-result slice-aggregate-make-header-result-2
+    make-header-result-requires block-of-requires slice-aggregate-long-end long-end-requires slice-aggregate-tag
+    tag-requires block-of-requires-2 slice-aggregate-line slice-aggregate-line-2 line-requires returns)

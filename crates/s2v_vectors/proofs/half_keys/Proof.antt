@@ -35,10 +35,4 @@ returns c = search needs
 pub half-keys-spec : {M : Type 1} → statement M
 half-keys-spec =
     tie.close
-    (tie.spec
-    add-round-keys
-    sub-round-keys
-    part-round-keys-start
-    part-round-keys-end
-    round-keys-requires
-    returns)
+    (tie.spec add-round-keys sub-round-keys part-round-keys-start part-round-keys-end round-keys-requires returns)

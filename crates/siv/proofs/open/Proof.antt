@@ -5,7 +5,7 @@ use Prim.Native.Nat.{_-_}
 use native.Mathlib.Omega.{arith}
 use lib.ListN.{length}
 use borrow.Author.Needs.{needs}
-use Rattle.answers.proofs.Laws.{told-refused, passed}
+use Rattle.answers.proofs.Laws.{passed}
 use Rattle.whole.specs.Siv.{opened}
 use Rattle.whole.proofs.Laws.{openJudged, OpenAdmits, open-admits, open-refused, open-delivered, length-opened, put-rest, text-read, scratch-wiped}
 use Rattle.siv.proofs.open.Statement.{statement}
@@ -29,7 +29,7 @@ enum-told : tie.Need-enum-told
 enum-told c = search needs
 
 returns : tie.Need-returns
-returns c = open-refused _ _ _ _ _ _ _ (told-refused (c .before .before .judge-open .result) (c .before .match .keys1)) (c .before .before .judge-open .ensures)
+returns c = open-refused _ _ _ _ _ _ _ (c .before .match .keys1) (c .before .before .judge-open .ensures)
 
 enum-told-2 : tie.Need-enum-told-2
 enum-told-2 c = search needs
@@ -40,7 +40,7 @@ engine-requires c κs = search needs
 decrypt-and-verify-requires : tie.Need-decrypt-and-verify-requires
 decrypt-and-verify-requires c κs =
     let a = admits (c .before .before .before .before) in
-    (c .before .before .engine .ensures, (a .keyed, omega (arith, a .sums), a .countFits), a .tagged, omega (arith, a .scratchFits))
+    (c .before .before .engine .ensures, (a .keyed, (omega (arith, a .sums), a .countFits)), (a .tagged, omega (arith, a .scratchFits)))
 
 sub-release-or-wipe : tie.Need-sub-release-or-wipe
 sub-release-or-wipe c = admits (c .before .before .before .before .before .before .before) .tagged
@@ -68,22 +68,12 @@ returns-2 c =
     let long : length text ≡ length y - 16 = length-opened key y in
     let used = opening .decrypt-and-verify .last .1 .1 .1 .1 .1 .0 in
     let tried = opening .decrypt-and-verify .ensures in
-    open-delivered _ _ _ _ _ _ (opening .decrypt-and-verify .result .genuine) (sym (tried .0)) (judged matched) _ _ _ _ (done .release-or-wipe .ensures .0) (tried .1 .0)
-    (λ _. text-read text (args .scratch .now) (tried .1 .1) (sym long) (omega (arith, long, admits matched .scratchFits))) (done .release-or-wipe .ensures .1 .0)
-    (scratch-wiped (args .scratch .now) used (length y - 16) (put-rest (args .scratch .now) text (tried .1 .1) (sym long)) (done .release-or-wipe .ensures .1 .1))
+    open-delivered _ _ _ _ _ _ (opening .decrypt-and-verify .result .genuine) (sym (tried .judged)) (judged matched) _ _ _ _ (done .release-or-wipe .ensures .0) (tried .work)
+    (λ _. text-read text (args .scratch .now) (tried .text) (sym long) (omega (arith, long, admits matched .scratchFits))) (done .release-or-wipe .ensures .1 .0)
+    (scratch-wiped (args .scratch .now) used (length y - 16) (put-rest (args .scratch .now) text (tried .text) (sym long)) (done .release-or-wipe .ensures .1 .1))
 
 pub open-spec : {M : Type 1} → statement M
 open-spec =
     tie.close
-    (tie.spec
-    judge-open-requires
-    enum-told
-    returns
-    enum-told-2
-    engine-requires
-    decrypt-and-verify-requires
-    sub-release-or-wipe
-    release-or-wipe-requires
-    same-length
-    same-length-2
-    returns-2)
+    (tie.spec judge-open-requires enum-told returns enum-told-2 engine-requires decrypt-and-verify-requires
+    sub-release-or-wipe release-or-wipe-requires same-length same-length-2 returns-2)

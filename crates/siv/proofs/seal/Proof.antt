@@ -1,13 +1,12 @@
 -- `siv::seal` meets its contract.
 -- Assumes nothing.
-use mathlib.Core.Path.{_≡_, ap, sym, _∙_}
+use mathlib.Core.Path.{_≡_, ap, _∙_}
 use Prim.Native.Nat.{ℕ}
 use native.Mathlib.Omega.{arith}
 use lib.ListN.{replicate}
 use borrow.Author.Needs.{needs}
 use Rattle.octets.specs.Octets.{put}
-use Rattle.answers.specs.Answer.{Outcome}
-use Rattle.answers.proofs.Laws.{told-refused, told-ok}
+use Rattle.answers.proofs.Laws.{passed}
 use Rattle.whole.specs.Calls.{sealNumber}
 use Rattle.whole.proofs.Laws.{SealAdmits, seal-admits, seal-refused, seal-done}
 use Rattle.siv.proofs.seal.Statement.{statement}
@@ -18,7 +17,7 @@ admitted : (c : tie.At-match-keys2)
     → let a = c .before .before .before .before .before .before .before .before .args in
     sealNumber (a .key .now) (a .header .now) (a .lens .now) (a .input .now) (a .output .now) (a .scratch .now) ≡ 0
 unfolding sealNumber
-admitted c = sym (ap (λ (o : Outcome). o .number) (c .before .judge-seal .ensures)) ∙ told-ok (c .before .judge-seal .result) (c .match .keys2)
+admitted c = passed (c .before .judge-seal .result) _ (c .match .keys2) (c .before .judge-seal .ensures)
 
 admits : (c : tie.At-match-keys2)
     → let a = c .before .before .before .before .before .before .before .before .args in
@@ -33,7 +32,7 @@ enum-told c = search needs
 
 returns : tie.Need-returns
 unfolding sealNumber
-returns c = seal-refused _ _ _ _ _ _ _ (told-refused (c .before .before .judge-seal .result) (c .before .match .keys1)) (c .before .before .judge-seal .ensures)
+returns c = seal-refused _ _ _ _ _ _ _ (c .before .match .keys1) (c .before .before .judge-seal .ensures)
 
 enum-told-2 : tie.Need-enum-told-2
 enum-told-2 c = search needs
@@ -41,7 +40,7 @@ enum-told-2 c = search needs
 seal-admitted-requires : tie.Need-seal-admitted-requires
 seal-admitted-requires c κs =
     let a = admits (c .before .before) in
-    ((a .keyed, omega (arith, a .sums), a .countFits), omega (arith, a .outputFits))
+    ((a .keyed, (omega (arith, a .sums), a .countFits)), omega (arith, a .outputFits))
 
 scratch-need-requires : tie.Need-scratch-need-requires
 scratch-need-requires c κs = search needs
@@ -62,23 +61,15 @@ same-length-2 c = search needs
 
 returns-2 : tie.Need-returns-2
 returns-2 c =
-    let scratch = c .before .before .before .before .before .before .before .before .before .before .before .before .before .before .before .before .before .before .args .scratch .now in
-    let sealed = c .before .before .before .before .before .before .before .seal-admitted .ensures in
-    seal-done _ _ _ _ _ _ _ _ _ (admitted (c .before .before .before .before .before .before .before .before .before .before)) (sealed .0) (sealed .1)
+    let sealing = c .before .before .before .before .before .before .before in
+    let matched = sealing .before .before .before in
+    let scratch = matched .before .before .before .before .before .before .before .before .args .scratch .now in
+    let sealed = sealing .seal-admitted .ensures in
+    seal-done _ _ _ _ _ _ _ _ _ (admitted matched) (sealed .0) (sealed .1)
     (c .before .before .zero-at .ensures ∙ ap (λ (n : ℕ). put scratch 0 (replicate n 0)) (c .before .before .before .scratch-need .ensures))
 
 pub seal-spec : {M : Type 1} → statement M
 seal-spec =
     tie.close
-    (tie.spec
-    judge-seal-requires
-    enum-told
-    returns
-    enum-told-2
-    seal-admitted-requires
-    scratch-need-requires
-    zero-at-requires
-    add-t13
-    same-length
-    same-length-2
-    returns-2)
+    (tie.spec judge-seal-requires enum-told returns enum-told-2 seal-admitted-requires scratch-need-requires
+    zero-at-requires add-t13 same-length same-length-2 returns-2)

@@ -35,14 +35,4 @@ returns-2 c = search needs
 
 pub count-refused-spec : {M : Type 1} → statement M
 count-refused-spec =
-    tie.close
-    (tie.spec
-    Inv-loop
-    μ-loop
-    loop-holds
-    refused-at-requires
-    returns
-    add-i
-    loop-less
-    loop-again
-    returns-2)
+    tie.close (tie.spec Inv-loop μ-loop loop-holds refused-at-requires returns add-i loop-less loop-again returns-2)

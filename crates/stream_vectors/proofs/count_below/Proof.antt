@@ -41,15 +41,5 @@ returns-3 c = search needs
 pub count-below-spec : {M : Type 1} → statement M
 count-below-spec =
     tie.close
-    (tie.spec
-    Inv-loop
-    μ-loop
-    loop-holds
-    seals-requires
-    returns
-    opens-requires
-    returns-2
-    add-a
-    loop-less
-    loop-again
+    (tie.spec Inv-loop μ-loop loop-holds seals-requires returns opens-requires returns-2 add-a loop-less loop-again
     returns-3)

@@ -34,14 +34,4 @@ returns c = search needs
 
 pub count-cuts-spec : {M : Type 1} → statement M
 count-cuts-spec =
-    tie.close
-    (tie.spec
-    Inv-loop
-    μ-loop
-    loop-holds
-    count-below-requires
-    add-count
-    add-b
-    loop-less
-    loop-again
-    returns)
+    tie.close (tie.spec Inv-loop μ-loop loop-holds count-below-requires add-count add-b loop-less loop-again returns)

@@ -98,18 +98,6 @@ returns c =
 pub absorb-spec : {M : Type 1} → statement M
 absorb-spec =
     tie.close
-    (tie.spec
-    add-end
-    tail-len-requires
-    add-n
-    sub-n
-    sub-chain-joined
-    part-chain-joined-start
-    part-chain-joined-end
-    chain-joined-requires
-    sub-tail-joined
-    part-tail-joined-start
-    part-tail-joined-end
-    mul-tail-joined
-    tail-joined-requires
-    returns)
+    (tie.spec add-end tail-len-requires add-n sub-n sub-chain-joined part-chain-joined-start part-chain-joined-end
+    chain-joined-requires sub-tail-joined part-tail-joined-start part-tail-joined-end mul-tail-joined
+    tail-joined-requires returns)

@@ -43,10 +43,5 @@ returns c =
 pub chain-front-spec : {M : Type 1} → statement M
 chain-front-spec =
     tie.close
-    (tie.spec
-    slice-aggregate-copy-joined
-    mul-copy-joined
-    copy-joined-requires
-    slice-aggregate-chain-blocks
-    chain-blocks-requires
-    returns)
+    (tie.spec slice-aggregate-copy-joined mul-copy-joined copy-joined-requires slice-aggregate-chain-blocks
+    chain-blocks-requires returns)

@@ -79,17 +79,6 @@ returns-3 c =
 pub chain-joined-spec : {M : Type 1} → statement M
 chain-joined-spec =
     tie.close
-    (tie.spec
-    returns
-    engine-requires
-    chain-front-requires
-    returns-2
-    chain-front-requires-2
-    sub-chain-blocks
-    sub-chain-blocks-2
-    part-chain-blocks-start
-    part-chain-blocks-end
-    sub-chain-blocks-3
-    chain-blocks-requires
-    add-t17
+    (tie.spec returns engine-requires chain-front-requires returns-2 chain-front-requires-2 sub-chain-blocks
+    sub-chain-blocks-2 part-chain-blocks-start part-chain-blocks-end sub-chain-blocks-3 chain-blocks-requires add-t17
     returns-3)

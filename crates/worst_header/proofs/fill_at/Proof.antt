@@ -44,15 +44,5 @@ returns c = written-all _ _ _ _ _ (c .before .loop .inv) (simp length-replicate 
 pub fill-at-spec : {M : Type 1} → statement M
 fill-at-spec =
     tie.close
-    (tie.spec
-    Inv-loop
-    μ-loop
-    loop-holds
-    add-lens
-    mul-lens
-    slice-write-lens
-    add-i
-    loop-less
-    loop-again
-    same-length
+    (tie.spec Inv-loop μ-loop loop-holds add-lens mul-lens slice-write-lens add-i loop-less loop-again same-length
     returns)

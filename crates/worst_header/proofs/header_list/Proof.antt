@@ -69,17 +69,5 @@ returns-2 c =
 pub header-list-spec : {M : Type 1} → statement M
 header-list-spec =
     tie.close
-    (tie.spec
-    is-plan-requires
-    returns
-    sub-first
-    mul-first
-    sub-first-2
-    cast-list-of
-    cast-list-of-2
-    list-of-requires
-    sub-of-all
-    part-of-all-start
-    part-of-all-end
-    of-all-requires
-    returns-2)
+    (tie.spec is-plan-requires returns sub-first mul-first sub-first-2 cast-list-of cast-list-of-2 list-of-requires
+    sub-of-all part-of-all-start part-of-all-end of-all-requires returns-2)

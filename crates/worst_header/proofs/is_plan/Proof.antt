@@ -40,6 +40,4 @@ returns-6 : tie.Need-returns-6
 returns-6 c = sym (plan-by _ _ _ (record { some = omega arith; countFits = count-fits (c .before .before .before); small = omega arith; bounded = omega arith; enough = omega arith }))
 
 pub is-plan-spec : {M : Type 1} → statement M
-is-plan-spec =
-    tie.close
-    (tie.spec returns too-many-requires returns-2 returns-3 returns-4 mul-if5 returns-5 returns-6)
+is-plan-spec = tie.close (tie.spec returns too-many-requires returns-2 returns-3 returns-4 mul-if5 returns-5 returns-6)

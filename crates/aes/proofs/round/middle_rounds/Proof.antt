@@ -56,14 +56,5 @@ returns c =
 pub middle-rounds-spec : {M : Type 1} → statement M
 middle-rounds-spec =
     tie.close
-    (tie.spec
-    Inv-loop
-    μ-loop
-    loop-holds
-    add-round-key
-    round-key-requires
-    round-requires
-    add-n
-    loop-less
-    loop-again
+    (tie.spec Inv-loop μ-loop loop-holds add-round-key round-key-requires round-requires add-n loop-less loop-again
     returns)

@@ -25,4 +25,6 @@ returns : tie.Need-returns
 returns c = c .copy-at .ensures ∙ ap (put _ _) (c .before .before .unpack .ensures ∙ c .before .before .before .before .next-word .ensures)
 
 pub extend-spec : {M : Type 1} → statement M
-extend-spec = tie.close (tie.spec next-word-requires mul-copy-at unpack-requires slice-aggregate-copy-at copy-at-requires returns)
+extend-spec =
+    tie.close
+    (tie.spec next-word-requires mul-copy-at unpack-requires slice-aggregate-copy-at copy-at-requires returns)

@@ -28,4 +28,6 @@ unfolding nextWord
 returns c = added _ _ ∙ ap₂ xors (c .before .word-at2 .ensures) (c .temp-word .ensures ∙ ap (temp _ _) (c .before .before .word-at .ensures))
 
 pub next-word-spec : {M : Type 1} → statement M
-next-word-spec = tie.close (tie.spec sub-word-at word-at-requires sub-word-at-2 word-at-requires-2 temp-word-requires returns)
+next-word-spec =
+    tie.close
+    (tie.spec sub-word-at word-at-requires sub-word-at-2 word-at-requires-2 temp-word-requires returns)

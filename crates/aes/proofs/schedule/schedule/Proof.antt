@@ -47,16 +47,5 @@ returns c = scheduled-all _ _ _ (c .before .loop .i) (omega arith) (omega arith)
 pub schedule-spec : {M : Type 1} → statement M
 schedule-spec =
     tie.close
-    (tie.spec
-    Inv-loop
-    μ-loop
-    slice-aggregate-copy-at
-    copy-at-requires
-    mul-end
-    add-end
-    loop-holds
-    extend-requires
-    add-i
-    loop-less
-    loop-again
-    returns)
+    (tie.spec Inv-loop μ-loop slice-aggregate-copy-at copy-at-requires mul-end add-end loop-holds extend-requires add-i
+    loop-less loop-again returns)

@@ -51,4 +51,7 @@ unfolding temp
 returns-4 c = simp (ne-eqb _ _ (c .before .if1 .left), le-ltb _ _ (c .if2 .left))
 
 pub temp-word-spec : {M : Type 1} → statement M
-temp-word-spec = tie.close (tie.spec rem-phase up1-requires sub-column-requires div-round-constant sub-round-constant round-constant-requires cast-result returns sub-column-requires-2 returns-2 returns-3 returns-4)
+temp-word-spec =
+    tie.close
+    (tie.spec rem-phase up1-requires sub-column-requires div-round-constant sub-round-constant round-constant-requires
+    cast-result returns sub-column-requires-2 returns-2 returns-3 returns-4)

@@ -5,7 +5,7 @@ use native.Mathlib.Omega.{arith}
 use lib.ListN.{length}
 use borrow.Author.Needs.{needs}
 use Rattle.answers.specs.Answer.{first}
-use Rattle.answers.proofs.Laws.{told-refused, passed}
+use Rattle.answers.proofs.Laws.{passed}
 use Rattle.head.specs.Head.{restRows, extendHead}
 use Rattle.head.proofs.Laws.{rest-admits, make-refused, make-done}
 use Rattle.head.proofs.Head.extend.Statement.{statement}
@@ -27,7 +27,7 @@ refused-requires c κs = search needs
 
 returns : tie.Need-returns
 unfolding extendHead
-returns c = make-refused _ _ _ (c .before .before .before .judge-rest .result) (told-refused (c .before .before .before .judge-rest .result) (c .before .before .match .keys1)) (c .before .before .before .judge-rest .ensures) (c .refused .ensures)
+returns c = make-refused _ _ _ (c .before .before .before .judge-rest .result) (c .before .before .match .keys1) (c .before .before .before .judge-rest .ensures) (c .refused .ensures)
 
 enum-told-2 : tie.Need-enum-told-2
 enum-told-2 c = search needs
@@ -45,11 +45,4 @@ returns-2 c = make-done _ _ _ (none (c .before .before)) (c .extended .ensures)
 pub extend-spec : {M : Type 1} → statement M
 extend-spec =
     tie.close
-    (tie.spec
-    judge-rest-requires
-    enum-told
-    refused-requires
-    returns
-    enum-told-2
-    extended-requires
-    returns-2)
+    (tie.spec judge-rest-requires enum-told refused-requires returns enum-told-2 extended-requires returns-2)

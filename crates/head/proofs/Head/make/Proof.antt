@@ -4,7 +4,7 @@ use mathlib.Core.Path.{_≡_}
 use lib.ListN.{length}
 use borrow.Author.Needs.{needs}
 use Rattle.answers.specs.Answer.{first}
-use Rattle.answers.proofs.Laws.{told-refused, passed}
+use Rattle.answers.proofs.Laws.{passed}
 use Rattle.whole.specs.Calls.{headerRows}
 use Rattle.whole.proofs.Laws.{header-usable}
 use Rattle.head.specs.Head.{makeHead}
@@ -28,7 +28,7 @@ refused-requires c κs = search needs
 
 returns : tie.Need-returns
 unfolding makeHead
-returns c = make-refused _ _ _ (c .before .before .before .judge-header .result) (told-refused (c .before .before .before .judge-header .result) (c .before .before .match .keys1)) (c .before .before .before .judge-header .ensures) (c .refused .ensures)
+returns c = make-refused _ _ _ (c .before .before .before .judge-header .result) (c .before .before .match .keys1) (c .before .before .before .judge-header .ensures) (c .refused .ensures)
 
 enum-told-2 : tie.Need-enum-told-2
 enum-told-2 c = search needs
@@ -45,11 +45,4 @@ returns-2 c = make-done _ _ _ (none (c .before .before)) (c .head-of .ensures)
 pub make-spec : {M : Type 1} → statement M
 make-spec =
     tie.close
-    (tie.spec
-    judge-header-requires
-    enum-told
-    refused-requires
-    returns
-    enum-told-2
-    head-of-requires
-    returns-2)
+    (tie.spec judge-header-requires enum-told refused-requires returns enum-told-2 head-of-requires returns-2)

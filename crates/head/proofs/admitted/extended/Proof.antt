@@ -4,12 +4,12 @@ use mathlib.Core.Path.{ap}
 use borrow.Author.Needs.{needs}
 use Rattle.answers.specs.Answer.{success}
 use Rattle.head.specs.Head.{extendedWork}
-use Rattle.head.proofs.Laws.{goes-on, stays, stays-work}
+use Rattle.head.proofs.Laws.{extended-by, extended-none, extended-none-work}
 use Rattle.head.proofs.admitted.extended.Statement.{statement}
 use Rattle.head.proofs.admitted.extended.Tie as tie
 
 returns : tie.Need-returns
-returns c = record { outcome = ap (success 0) (stays-work _ _ (c .if1 .taken)); head = stays _ _ _ (c .if1 .taken) }
+returns c = record { outcome = ap (success 0) (extended-none-work _ _ (c .if1 .taken)); head = extended-none _ _ _ (c .if1 .taken) }
 
 engine-requires : tie.Need-engine-requires
 engine-requires c κs = search needs
@@ -27,20 +27,14 @@ returns-2 : tie.Need-returns-2
 unfolding extendedWork
 returns-2 c =
     let absorbed = c .before .before in
-    let args = absorbed .before .before .before .before .before .before .before .before .before .before .before .args in
+    let keyed = absorbed .before .before .before in
+    let args = keyed .before .before .before .before .before .before .before .before .args in
     let all = absorbed .absorb-strings .ensures in
     record {
       outcome = ap (success 0) (all .work);
-      head = goes-on (args .rest .now) (args .lens .now) (args .head) (absorbed .before .before .before .make-subkeys .ensures) (all .block);
+      head = extended-by (args .rest .now) (args .lens .now) (args .head) (keyed .make-subkeys .ensures) (all .block);
     }
 
 pub extended-spec : {M : Type 1} → statement M
 extended-spec =
-    tie.close
-    (tie.spec
-    returns
-    engine-requires
-    make-subkeys-requires
-    absorb-strings-requires
-    add-next
-    returns-2)
+    tie.close (tie.spec returns engine-requires make-subkeys-requires absorb-strings-requires add-next returns-2)

@@ -18,6 +18,13 @@ use Rattle.head.proofs.Laws.{prepared}
 use Rattle.head.proofs.admitted.head_of.Statement.{statement}
 use Rattle.head.proofs.admitted.head_of.Tie as tie
 
+-- the start, from where the first round keys are made and from where L is
+abbrev start-of-keys : tie.After-round-keys → tie.Start
+start-of-keys c = c .before .before .before .before .before .before .before
+
+abbrev start-of : tie.After-zero-cipher → tie.Start
+start-of c = start-of-keys (c .before .before .before .before .before .before)
+
 engine-requires : tie.Need-engine-requires
 engine-requires c κs = search needs
 
@@ -54,15 +61,15 @@ round-keys-requires-2 c κs =
     (search needs, ap (λ (l : List ℕ). isWidth (length l)) (part-rest key (length key / 2)) ∙ ap isWidth long ∙ h .half)
 
 zero-cipher-requires : tie.Need-zero-cipher-requires
-zero-cipher-requires c κs = (search needs, halves _ (c .before .before .before .before .before .before .before .before .before .before .before .before .pre .0) .most)
+zero-cipher-requires c κs = (search needs, halves _ (start-of-keys (c .before .before .before .before .before) .pre .0) .most)
 
 make-subkeys-requires : tie.Need-make-subkeys-requires
 make-subkeys-requires c κs = search needs
 
 make-header-result-requires : tie.Need-make-header-result-requires
 make-header-result-requires c κs =
-    let start = c .before .before .before .before .before .before .before .before .before .before .before .before .before .before .before .before .before in
-    (search needs, halves _ (start .pre .0) .most, start .pre .1, start .pre .2)
+    let start = start-of (c .before .before .before .before) in
+    ((search needs, halves _ (start .pre .0) .most), start .pre .1)
 
 short : (start : tie.Start) → length (start .args .header .now) < 2 ^ 64
 short start = search needs
@@ -70,16 +77,17 @@ short start = search needs
 add-t14 : tie.Need-add-t14
 add-t14 c =
     let made = c .before .before .before in
-    let start = made .before .before .before .before .before .before .before .before .before .before .before .before .before .before .before .before .before .before in
+    let zero = made .before .before .before .before .before in
+    let start = start-of zero in
     let lens = start .args .lens .now in
-    omega (arith, made .before .before .before .before .before .zero-cipher .ensures .work, made .make-header-result .ensures .work ∙ header-lengths (start .args .header .now) lens (start .pre .1), blocks-most lens, start .pre .1, start .pre .2, short start)
+    omega (arith, zero .zero-cipher .ensures .work, made .make-header-result .ensures .work ∙ header-lengths (start .args .header .now) lens (start .pre .1 .0), blocks-most lens, start .pre .1, short start)
 
 returns : tie.Need-returns
 unfolding headOfWork
 returns c =
     let made = c .before .before .before in
     let zero = made .before .before .before .before .before in
-    let key = made .before .before .before .before .before .before .before .before .before .before .before .before .before .before .before .before .before .before .args .key .now in
+    let key = start-of zero .args .key .now in
     let front : length key / 2 - 0 ≡ length key / 2 = omega arith in
     record {
       outcome = ap (success 0) (ap₂ _+_ (zero .zero-cipher .ensures .work) (made .make-header-result .ensures .work));
@@ -91,18 +99,6 @@ returns c =
 pub head-of-spec : {M : Type 1} → statement M
 head-of-spec =
     tie.close
-    (tie.spec
-    engine-requires
-    sub-round-keys
-    part-round-keys-start
-    part-round-keys-end
-    round-keys-requires
-    sub-round-keys-2
-    part-round-keys-start-2
-    part-round-keys-end-2
-    round-keys-requires-2
-    zero-cipher-requires
-    make-subkeys-requires
-    make-header-result-requires
-    add-t14
-    returns)
+    (tie.spec engine-requires sub-round-keys part-round-keys-start part-round-keys-end round-keys-requires
+    sub-round-keys-2 part-round-keys-start-2 part-round-keys-end-2 round-keys-requires-2 zero-cipher-requires
+    make-subkeys-requires make-header-result-requires add-t14 returns)

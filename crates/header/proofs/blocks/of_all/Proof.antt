@@ -62,14 +62,4 @@ returns c =
 pub of-all-spec : {M : Type 1} → statement M
 of-all-spec =
     tie.close
-    (tie.spec
-    Inv-loop
-    μ-loop
-    loop-holds
-    length-at-requires
-    of-requires
-    add-sum
-    add-i
-    loop-less
-    loop-again
-    returns)
+    (tie.spec Inv-loop μ-loop loop-holds length-at-requires of-requires add-sum add-i loop-less loop-again returns)

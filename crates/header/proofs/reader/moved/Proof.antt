@@ -1,4 +1,6 @@
--- `header::reader::moved` meets its contract: a walk of its MIR, by hand. A struct is made anew of the slice that the one passed holds, and the place n further. That the sum does not wrap follows from the contract: a slice's length fits.
+-- `header::reader::moved` meets its contract: a walk of its MIR, by hand.
+-- A struct is made anew of the slice that the one passed holds, and the place n further. That the sum does not wrap
+-- follows from the contract: a slice's length fits.
 -- Assumes nothing.
 use mathlib.Core.Path.{refl}
 use mathlib.Core.Option.{some}

@@ -1,4 +1,5 @@
--- `header::reader::new` meets its contract: a walk of its MIR, by hand. A `Reader` is made of the slice and the place passed, in the result's local.
+-- `header::reader::new` meets its contract: a walk of its MIR, by hand.
+-- A `Reader` is made of the slice and the place passed, in the result's local.
 -- Assumes nothing.
 use mathlib.Core.Path.{refl}
 use mathlib.Core.Option.{some}

@@ -1,4 +1,6 @@
--- `header::reader::next` meets its contract: a walk of its MIR, by hand. The struct is taken apart, and `string_at` is called on the slice, the place and the number of bytes. All that the proof knows of `string_at` is that it meets its contract.
+-- `header::reader::next` meets its contract: a walk of its MIR, by hand.
+-- The struct is taken apart, and `string_at` is called on the slice, the place and the number of bytes.
+-- All that the proof knows of `string_at` is that it meets its contract.
 -- Assumes nothing.
 use mathlib.Core.Path.{_≡_, refl}
 use mathlib.Core.Option.{some}

@@ -21,5 +21,4 @@ returns : tie.Need-returns
 returns c = part-to _ (c .before .args .at) (c .before .args .n)
 
 pub string-at-spec : {M : Type 1} → statement M
-string-at-spec =
-    tie.close (tie.spec add-result sub-result part-result-start part-result-end returns)
+string-at-spec = tie.close (tie.spec add-result sub-result part-result-start part-result-end returns)

@@ -45,16 +45,5 @@ returns c = search needs
 pub add-all-spec : {M : Type 1} → statement M
 add-all-spec =
     tie.close
-    (tie.spec
-    Inv-loop
-    μ-loop
-    loop-holds
-    piece-end-requires
-    sub-add
-    part-add-start
-    part-add-end
-    add-requires
-    state-of-requires
-    loop-less
-    loop-again
-    returns)
+    (tie.spec Inv-loop μ-loop loop-holds piece-end-requires sub-add part-add-start part-add-end add-requires
+    state-of-requires loop-less loop-again returns)

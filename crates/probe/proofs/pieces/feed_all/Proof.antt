@@ -49,17 +49,5 @@ returns c = search needs
 pub feed-all-spec : {M : Type 1} → statement M
 feed-all-spec =
     tie.close
-    (tie.spec
-    Inv-loop
-    μ-loop
-    loop-holds
-    piece-end-requires
-    sub-feed
-    part-feed-start
-    part-feed-end
-    feed-requires
-    state-of-requires
-    loop-less
-    loop-again
-    same-length
-    returns)
+    (tie.spec Inv-loop μ-loop loop-holds piece-end-requires sub-feed part-feed-start part-feed-end feed-requires
+    state-of-requires loop-less loop-again same-length returns)

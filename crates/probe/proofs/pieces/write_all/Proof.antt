@@ -61,21 +61,6 @@ returns c = search needs
 pub write-all-spec : {M : Type 1} → statement M
 write-all-spec =
     tie.close
-    (tie.spec
-    Inv-loop
-    μ-loop
-    loop-holds
-    piece-end-requires
-    sub-write
-    part-write-start
-    part-write-end
-    add-write
-    sub-write-2
-    part-write-start-2
-    part-write-end-2
-    write-requires
-    state-of-requires
-    loop-less
-    loop-again
-    same-length
+    (tie.spec Inv-loop μ-loop loop-holds piece-end-requires sub-write part-write-start part-write-end add-write
+    sub-write-2 part-write-start-2 part-write-end-2 write-requires state-of-requires loop-less loop-again same-length
     returns)

@@ -52,18 +52,5 @@ returns c = search needs
 pub all-spec : {M : Type 1} → statement M
 all-spec =
     tie.close
-    (tie.spec
-    Inv-loop
-    μ-loop
-    loop-holds
-    piece-end-requires
-    sub-one
-    part-one-start
-    part-one-end
-    one-requires
-    first-refusal-requires
-    next-place-requires
-    loop-less
-    loop-again
-    same-length
-    returns)
+    (tie.spec Inv-loop μ-loop loop-holds piece-end-requires sub-one part-one-start part-one-end one-requires
+    first-refusal-requires next-place-requires loop-less loop-again same-length returns)

@@ -4,7 +4,7 @@ use mathlib.Core.Path.{refl, ap, _∙_}
 use Prim.Native.Nat.{ℕ}
 use native.Mathlib.Nat.{sub-zero}
 use borrow.Author.Needs.{needs}
-use lib.ListN.{take, replicate}
+use lib.ListN.{take}
 use Rattle.octets.specs.Octets.{put}
 use Rattle.siv.proofs.admitted.release_or_wipe.Statement.{statement}
 use Rattle.siv.proofs.admitted.release_or_wipe.Tie as tie
@@ -35,15 +35,12 @@ same-length-2 c = search needs
 
 returns : tie.Need-returns
 returns c =
-    let tested = c .before .before .before .before .before .before .before .before .before .before .before in
+    let copied = c .before .before .before .before .before .before .before in
+    let tested = copied .before .before .before .before in
     let args = tested .before .before .before .args in
-    simp (tested .if1 .taken) (
-      λ w. refl,
-      (
-        c .before .before .before .before .before .before .before .copy-at .ensures ∙ ap (λ (m : ℕ). put (args .output .now) 0 (take m (args .scratch .now))) (sub-zero (args .n)),
-        c .before .before .zero-at .ensures ∙ ap (λ (m : ℕ). put (args .scratch .now) 0 (replicate m 0)) (c .before .before .before .scratch-need .ensures),
-      ),
-    )
+    let output = copied .copy-at .ensures ∙ ap (λ (m : ℕ). put (args .output .now) 0 (take m (args .scratch .now))) (sub-zero (args .n)) in
+    let scratch = rw (c .before .before .before .scratch-need .ensures) at (c .before .before .zero-at .ensures) in
+    simp (tested .if1 .taken) (λ w. refl, (output, scratch))
 
 zero-at-requires-2 : tie.Need-zero-at-requires-2
 zero-at-requires-2 c κs = search needs
@@ -62,32 +59,13 @@ same-length-4 c = search needs
 
 returns-2 : tie.Need-returns-2
 returns-2 c =
-    let tested = c .before .before .before .before .before .before .before .before .before in
-    let args = tested .before .before .before .args in
-    simp (tested .if1 .left) (
-      λ w. refl,
-      (
-        c .before .before .before .before .before .before .before .zero-at2 .ensures,
-        c .before .before .zero-at3 .ensures ∙ ap (λ (m : ℕ). put (args .scratch .now) 0 (replicate m 0)) (c .before .before .before .scratch-need2 .ensures),
-      ),
-    )
+    let wiped = c .before .before .before .before .before .before .before in
+    let scratch = rw (c .before .before .before .scratch-need2 .ensures) at (c .before .before .zero-at3 .ensures) in
+    simp (wiped .before .before .if1 .left) (λ w. refl, (wiped .zero-at2 .ensures, scratch))
 
 pub release-or-wipe-spec : {M : Type 1} → statement M
 release-or-wipe-spec =
     tie.close
-    (tie.spec
-    sub-copy-at
-    part-copy-at-start
-    part-copy-at-end
-    copy-at-requires
-    scratch-need-requires
-    zero-at-requires
-    same-length
-    same-length-2
-    returns
-    zero-at-requires-2
-    scratch-need-requires-2
-    zero-at-requires-3
-    same-length-3
-    same-length-4
-    returns-2)
+    (tie.spec sub-copy-at part-copy-at-start part-copy-at-end copy-at-requires scratch-need-requires zero-at-requires
+    same-length same-length-2 returns zero-at-requires-2 scratch-need-requires-2 zero-at-requires-3 same-length-3
+    same-length-4 returns-2)

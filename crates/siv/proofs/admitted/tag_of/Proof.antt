@@ -29,13 +29,12 @@ round-keys-requires c κs =
     let key = start .args .key .now in
     let h : KeyHalves (length key) = halves _ (start .pre .1 .0) in
     let long : length (take (length key / 2 - 0) key) ≡ length key / 2 = ap (λ (n : ℕ). length (take n key)) (sub-zero (length key / 2)) ∙ length-take-le _ key (omega arith) in
-    (search needs, ap isWidth long ∙ h .half)
+    (start .pre .0, ap isWidth long ∙ h .half)
 
 tag-under-requires : tie.Need-tag-under-requires
 tag-under-requires c κs =
     let start = c .before .before .before .before .before .before .before in
-    let h : KeyHalves (length (start .args .key .now)) = halves _ (start .pre .1 .0) in
-    (search needs, h .most, start .pre .1 .1, start .pre .1 .2)
+    ((start .pre .0, halves _ (start .pre .1 .0) .most), start .pre .1 .1)
 
 returns : tie.Need-returns
 returns c =
@@ -52,10 +51,4 @@ returns c =
 pub tag-of-spec : {M : Type 1} → statement M
 tag-of-spec =
     tie.close
-    (tie.spec
-    sub-round-keys
-    part-round-keys-start
-    part-round-keys-end
-    round-keys-requires
-    tag-under-requires
-    returns)
+    (tie.spec sub-round-keys part-round-keys-start part-round-keys-end round-keys-requires tag-under-requires returns)

@@ -1,8 +1,7 @@
 -- `siv::admitted::xor_key_stream` meets its contract.
 -- Assumes nothing.
 use mathlib.Core.Path.{_≡_, ap, _∙_}
-use mathlib.Core.List.{List}
-use Prim.Native.Nat.{ℕ, _/_}
+use Prim.Native.Nat.{_/_}
 use native.Mathlib.Omega.{arith}
 use lib.ListN.{length, drop, length-drop}
 use borrow.Author.Needs.{needs}
@@ -32,13 +31,12 @@ round-keys-requires c κs =
     let key = start .args .key .now in
     let h : KeyHalves (length key) = halves _ (start .pre .1) in
     let long : length (drop (length key / 2) key) ≡ length key / 2 = simp length-drop (omega arith) in
-    (search needs, ap (λ (l : List ℕ). isWidth (length l)) (part-rest key (length key / 2)) ∙ ap isWidth long ∙ h .half)
+    (start .pre .0, ap isWidth (ap length (part-rest key (length key / 2)) ∙ long) ∙ h .half)
 
 xor-from-requires : tie.Need-xor-from-requires
 xor-from-requires c κs =
     let start = c .before .before .before .before .before .before .before in
-    let h : KeyHalves (length (start .args .key .now)) = halves _ (start .pre .1) in
-    (search needs, h .most, omega arith, start .pre .2)
+    ((start .pre .0, halves _ (start .pre .1) .most), omega arith, start .pre .2)
 
 same-length : tie.Need-same-length
 same-length c = search needs
@@ -46,25 +44,17 @@ same-length c = search needs
 returns : tie.Need-returns
 unfolding streamedWork
 returns c =
-    let start = c .before .before .before .before .before .before .before .before .before .before in
+    let keyed = c .before .before .before .before .before in
+    let start = keyed .before .before .before .before .before in
     let args = start .args in
     let key = args .key .now in
-    let keys = c .before .before .before .before .before .round-keys .ensures ∙ ap roundKeys (part-rest key (length key / 2)) in
-    let wrote = c .before .before .xor-from .ensures in (
-      wrote .0 .work ∙ pieceWork-fresh 0 (length (args .src .now)),
-      wrote .1
-          ∙ ap (put (args .dst .now) (args .at)) (xorPiece-fresh _ (length-cipher _ _) (args .v) 0 (args .src .now))
-          ∙ ap (put (args .dst .now) (args .at)) (stream-by-half key (start .pre .1) (args .v) (args .src .now) keys),
-    )
+    let keys = keyed .round-keys .ensures ∙ ap roundKeys (part-rest key (length key / 2)) in
+    let wrote = c .before .before .xor-from .ensures in
+    let text = xorPiece-fresh _ (length-cipher _ _) (args .v) 0 (args .src .now) ∙ stream-by-half key (start .pre .1) (args .v) (args .src .now) keys in
+    (wrote .kept .work ∙ pieceWork-fresh 0 (length (args .src .now)), wrote .text ∙ ap (put (args .dst .now) (args .at)) text)
 
 pub xor-key-stream-spec : {M : Type 1} → statement M
 xor-key-stream-spec =
     tie.close
-    (tie.spec
-    sub-round-keys
-    part-round-keys-start
-    part-round-keys-end
-    round-keys-requires
-    xor-from-requires
-    same-length
-    returns)
+    (tie.spec sub-round-keys part-round-keys-start part-round-keys-end round-keys-requires xor-from-requires
+    same-length returns)

@@ -3,8 +3,8 @@
 use mathlib.Core.Path.{_≡_, refl, ap}
 use lib.ListN.{length}
 use borrow.Author.Needs.{needs}
-use Rattle.answers.specs.Answer.{outcomeOf, success, refusal, first}
-use Rattle.answers.proofs.Laws.{told-refused, passed}
+use Rattle.answers.specs.Answer.{success, first, Judges}
+use Rattle.answers.proofs.Laws.{passed}
 use Rattle.stream.specs.Steps.{addRows, addStep}
 use Rattle.stream.proofs.Laws.{judged-by, refused, done, add-admits}
 use Rattle.stream.proofs.Stream.add.Statement.{statement}
@@ -12,7 +12,7 @@ use Rattle.stream.proofs.Stream.add.Tie as tie
 
 judged : (c : tie.After-piece)
     → let args = c .before .before .before .args in
-    outcomeOf (c .piece .result) 0 ≡ refusal (first (addRows (args .self) (length (args .piece .now))))
+    Judges (addRows (args .self) (length (args .piece .now))) (c .piece .result)
 judged c = judged-by 1 _ _ (c .before .fits2 .ensures) (c .piece .ensures)
 
 none : (c : tie.At-match-keys2) → let args = c .before .before .before .before .args in first (addRows (args .self) (length (args .piece .now))) ≡ 0
@@ -27,9 +27,12 @@ piece-requires c κs = search needs
 enum-told : tie.Need-enum-told
 enum-told c = search needs
 
+refused-requires : tie.Need-refused-requires
+refused-requires c κs = search needs
+
 returns : tie.Need-returns
 unfolding addStep
-returns c = refused (c .before .before .piece .result) _ _ _ _ (told-refused (c .before .before .piece .result) (c .before .match .keys1)) (judged (c .before .before))
+returns c = refused _ _ _ _ (c .before .before .before .piece .result) (c .before .before .match .keys1) (judged (c .before .before .before)) (c .refused .ensures _)
 
 enum-told-2 : tie.Need-enum-told-2
 enum-told-2 c = search needs
@@ -47,4 +50,4 @@ returns-2 c =
 
 pub add-spec : {M : Type 1} → statement M
 add-spec =
-    tie.close (tie.spec fits-requires piece-requires enum-told returns enum-told-2 absorb-requires returns-2)
+    tie.close (tie.spec fits-requires piece-requires enum-told refused-requires returns enum-told-2 absorb-requires returns-2)

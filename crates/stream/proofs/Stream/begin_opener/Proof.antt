@@ -49,12 +49,5 @@ returns-2 c =
 pub begin-opener-spec : {M : Type 1} → statement M
 begin-opener-spec =
     tie.close
-    (tie.spec
-    is-tag-requires
-    judge-header-requires
-    refuse-tag-requires
-    returns
-    make-requires
-    load-requires
-    begin-with-requires
-    returns-2)
+    (tie.spec is-tag-requires judge-header-requires refuse-tag-requires returns make-requires load-requires
+    begin-with-requires returns-2)

@@ -48,12 +48,5 @@ returns-2 c =
 pub begin-opener-from-spec : {M : Type 1} → statement M
 begin-opener-from-spec =
     tie.close
-    (tie.spec
-    is-tag-requires
-    judge-rest-requires
-    refuse-tag-requires
-    returns
-    extend-requires
-    load-requires
-    begin-with-requires
-    returns-2)
+    (tie.spec is-tag-requires judge-rest-requires refuse-tag-requires returns extend-requires load-requires
+    begin-with-requires returns-2)

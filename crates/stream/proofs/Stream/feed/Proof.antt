@@ -10,8 +10,8 @@ use Rattle.cmac.specs.Cmac.{chainWork}
 use Rattle.cmac.proofs.Laws.{chain-work}
 use Rattle.keystream.specs.Pieces.{newBlocks, pieceWork}
 use Rattle.keystream.proofs.Laws.{stream-work}
-use Rattle.answers.specs.Answer.{outcomeOf, success, refusal, first}
-use Rattle.answers.proofs.Laws.{told-refused, passed}
+use Rattle.answers.specs.Answer.{success, first, Judges}
+use Rattle.answers.proofs.Laws.{passed}
 use Rattle.tail.specs.Tail.{leavingBlocks}
 use Rattle.tail.proofs.Laws.{cut}
 use Rattle.stream.specs.State.{stateWith, added, addedWork, streamedAt, streamedWith}
@@ -22,11 +22,15 @@ use Rattle.stream.proofs.Stream.feed.Tie as tie
 
 judged : (c : tie.After-piece-to)
     → let args = c .before .before .before .before .args in
-    outcomeOf (c .piece-to .result) 0 ≡ refusal (first (feedRows (args .self) (length (args .piece .now)) (length (args .output .now))))
+    Judges (feedRows (args .self) (length (args .piece .now)) (length (args .output .now))) (c .piece-to .result)
 judged c = judged-by 3 _ _ (c .before .fits2 .ensures) (c .piece-to .ensures)
 
+-- the start, from past the refusals
+abbrev start-of : tie.At-match-keys2 → tie.Start
+start-of c = c .before .before .before .before .before
+
 none : (c : tie.At-match-keys2)
-    → let args = c .before .before .before .before .before .args in
+    → let args = start-of c .args in
     first (feedRows (args .self) (length (args .piece .now)) (length (args .output .now))) ≡ 0
 none c = passed (c .before .piece-to .result) _ (c .match .keys2) (judged (c .before))
 
@@ -39,9 +43,12 @@ piece-to-requires c κs = search needs
 enum-told : tie.Need-enum-told
 enum-told c = search needs
 
+refused-requires : tie.Need-refused-requires
+refused-requires c κs = search needs
+
 returns : tie.Need-returns
 unfolding feedStep
-returns c = refused (c .before .before .piece-to .result) _ _ _ _ (told-refused (c .before .before .piece-to .result) (c .before .match .keys1)) (judged (c .before .before))
+returns c = refused _ _ _ _ (c .before .before .before .piece-to .result) (c .before .before .match .keys1) (judged (c .before .before .before)) (c .refused .ensures _)
 
 enum-told-2 : tie.Need-enum-told-2
 enum-told-2 c = search needs
@@ -74,7 +81,7 @@ absorb-requires c κs =
 
 -- the fields that make of the state that keeps the block the one with the plaintext, and the work for as many bytes
 joined : (c : tie.After-absorb)
-    → let args = c .before .before .before .before .before .before .before .before .before .before .before .before .before .before .args in
+    → let args = start-of (c .before .before .before .before .before .before .before .before .before) .args in
     let s = args .self in
     let n = length (args .piece .now) in
     let fields = c .absorb .result in
@@ -83,7 +90,7 @@ joined : (c : tie.After-absorb)
 unfolding addedWork
 joined c =
     let wrote = c .before .before .before .before .before .before in
-    let args = wrote .before .before .before .before .before .before .before .before .args in
+    let args = start-of (wrote .before .before .before) .args in
     let s = args .self in
     let text = args .piece .now in
     let n = length text in
@@ -102,8 +109,9 @@ unfolding pieceWork addedWork
 add-t14 c =
     let absorbed = c .before .before .before .before .before in
     let wrote = absorbed .before .before .before .before .before .before in
-    let s = wrote .before .before .before .before .before .before .before .before .args .self in
-    let n = length (wrote .before .before .before .before .before .before .before .before .args .piece .now) in
+    let args = start-of (wrote .before .before .before) .args in
+    let s = args .self in
+    let n = length (args .piece .now) in
     omega (arith, wrote .stream-at .ensures .0 .work ∙ stream-work (newBlocks (s .total) n), joined absorbed .1 ∙ chain-work (leavingBlocks (s .total) n), cut (s .total + n), feed-admits _ _ _ (none (wrote .before .before .before)) .1)
 
 same-length : tie.Need-same-length
@@ -122,18 +130,5 @@ returns-2 c =
 pub feed-spec : {M : Type 1} → statement M
 feed-spec =
     tie.close
-    (tie.spec
-    fits-requires
-    piece-to-requires
-    enum-told
-    returns
-    enum-told-2
-    stream-at-requires
-    add-absorb
-    sub-absorb
-    part-absorb-start
-    part-absorb-end
-    absorb-requires
-    add-t14
-    same-length
-    returns-2)
+    (tie.spec fits-requires piece-to-requires enum-told refused-requires returns enum-told-2 stream-at-requires
+    add-absorb sub-absorb part-absorb-start part-absorb-end absorb-requires add-t14 same-length returns-2)

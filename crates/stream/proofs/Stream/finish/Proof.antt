@@ -1,14 +1,14 @@
 -- `stream::Stream::finish` meets its contract.
 -- Assumes nothing.
-use mathlib.Core.Path.{_≡_, ap, sym, _∙_}
+use mathlib.Core.Path.{_≡_, refl, ap, sym, _∙_}
 use mathlib.Core.List.{List}
 use Prim.Native.Nat.{ℕ}
 use native.Mathlib.Omega.{arith}
 use lib.ListN.{length}
 use borrow.Author.Needs.{needs}
 use Rattle.octets.specs.Octets.{same}
-use Rattle.answers.specs.Answer.{outcomeOf, refusal, first}
-use Rattle.answers.proofs.Laws.{told-refused, passed}
+use Rattle.answers.specs.Answer.{success, forged, first, Judges}
+use Rattle.answers.proofs.Laws.{passed}
 use Rattle.stream.specs.State.{tagOfState}
 use Rattle.stream.specs.Steps.{finishRows}
 use Rattle.stream.proofs.Laws.{judged-by, finish-admits, finish-refused, finish-done, finish-forged}
@@ -17,7 +17,7 @@ use Rattle.stream.proofs.Stream.finish.Tie as tie
 
 judged : (c : tie.After-room)
     → let args = c .before .before .before .args in
-    outcomeOf (c .room .result) 0 ≡ refusal (first (finishRows (args .self) (length (args .output .now))))
+    Judges (finishRows (args .self) (length (args .output .now))) (c .room .result)
 judged c = judged-by 3 _ _ (c .before .fits2 .ensures) (c .room .ensures)
 
 none : (c : tie.At-match-keys2) → let args = c .before .before .before .before .args in first (finishRows (args .self) (length (args .output .now))) ≡ 0
@@ -32,8 +32,11 @@ room-requires c κs = search needs
 enum-told : tie.Need-enum-told
 enum-told c = search needs
 
+refused-requires : tie.Need-refused-requires
+refused-requires c κs = search needs
+
 returns : tie.Need-returns
-returns c = finish-refused _ _ (c .before .before .room .result) (told-refused (c .before .before .room .result) (c .before .match .keys1)) (judged (c .before .before))
+returns c = finish-refused _ _ (c .before .before .before .room .result) (c .before .before .match .keys1) (judged (c .before .before .before)) (c .refused .ensures _)
 
 enum-told-2 : tie.Need-enum-told-2
 enum-told-2 c = search needs
@@ -60,12 +63,12 @@ agrees c =
 returns-2 : tie.Need-returns-2
 returns-2 c =
     let told = c .before .before in
-    finish-done _ _ (none (told .before .before .before .before .before)) (c .ended .ensures) _ (agrees told ∙ c .before .if1 .taken) (told .before .before .tag-of-state .ensures .work)
+    finish-done _ _ (none (told .before .before .before .before .before)) (agrees told ∙ c .before .if1 .taken)
+    (record { outcome = ap (success _) (told .before .before .tag-of-state .ensures .work); state = c .ended .ensures; output = refl })
 
 zero-at-requires : tie.Need-zero-at-requires
 zero-at-requires c κs =
-    let start = c .before .before .before .before .before .before .before .before .before .before .before in
-    omega (arith, finish-admits (start .args .self) (length (start .args .output .now)) (none (c .before .before .before .before .before .before .before)) .1)
+    omega (arith, finish-admits _ _ (none (c .before .before .before .before .before .before .before)) .1)
 
 ended-requires-2 : tie.Need-ended-requires-2
 ended-requires-2 c κs = search needs
@@ -76,22 +79,11 @@ same-length c = search needs
 returns-3 : tie.Need-returns-3
 returns-3 c =
     let told = c .before .before .before .before .before .before in
-    finish-forged _ _ (none (told .before .before .before .before .before)) (c .ended2 .ensures) _ _ (agrees told ∙ c .before .before .before .before .before .if1 .left) (told .before .before .tag-of-state .ensures .work) (c .before .before .before .zero-at .ensures)
+    finish-forged _ _ (none (told .before .before .before .before .before)) (agrees told ∙ c .before .before .before .before .before .if1 .left)
+    (record { outcome = ap forged (told .before .before .tag-of-state .ensures .work); state = c .ended2 .ensures; output = c .before .before .before .zero-at .ensures })
 
 pub finish-spec : {M : Type 1} → statement M
 finish-spec =
     tie.close
-    (tie.spec
-    fits-requires
-    room-requires
-    enum-told
-    returns
-    enum-told-2
-    tag-of-state-requires
-    same-block-requires
-    ended-requires
-    returns-2
-    zero-at-requires
-    ended-requires-2
-    same-length
-    returns-3)
+    (tie.spec fits-requires room-requires enum-told refused-requires returns enum-told-2 tag-of-state-requires
+    same-block-requires ended-requires returns-2 zero-at-requires ended-requires-2 same-length returns-3)

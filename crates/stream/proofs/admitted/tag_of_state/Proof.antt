@@ -16,6 +16,10 @@ use Rattle.stream.proofs.admitted.tag_of_state.Tie as tie
 tail-length : (start : tie.Start) → length (start .args .s .tail) ≡ 31
 tail-length start = search needs
 
+-- the start, from where the subkeys are made
+abbrev start-of : tie.After-make-subkeys → tie.Start
+start-of c = c .before .before .before .before .before .before .before
+
 engine-requires : tie.Need-engine-requires
 engine-requires c κs = search needs
 
@@ -29,34 +33,32 @@ part-tag-from-start : tie.Need-part-tag-from-start
 part-tag-from-start c = search needs
 
 part-tag-from-end : tie.Need-part-tag-from-end
-part-tag-from-end c = omega (arith, tail-length (c .before .before .before .before .before .before .before .before .before .before), cut (c .before .before .before .before .before .before .before .before .before .before .args .s .total), c .before .before .before .before .before .before .before .before .before .before .pre)
+part-tag-from-end c =
+    let start = start-of (c .before .before .before) in
+    omega (arith, tail-length start, cut (start .args .s .total), start .pre)
 
 tag-from-requires : tie.Need-tag-from-requires
 tag-from-requires c κs =
-    (search needs, c .before .before .before .before .before .before .before .before .before .before .before .pre .0, simp length-take (omega (arith, tail-length (c .before .before .before .before .before .before .before .before .before .before .before))))
+    let start = start-of (c .before .before .before .before) in
+    ((search needs, start .pre .0), simp length-take (omega (arith, tail-length start)))
 
 returns : tie.Need-returns
 unfolding tagOfState tagOfStateWork
 returns c =
-    let start = c .before .before .before .before .before .before .before .before .before .before .before .before in
+    let made = c .before .before .before .before .before in
+    let start = start-of made in
     let s = start .args .s in
     let used : s .«tail_len» - 0 ≡ tailLength (s .total) = omega (arith, start .pre) in
     let tag = c .tag-from .ensures in
     record {
       block =
           tag .block
-          ∙ ap₂ (λ (k : Subkeys) (n : ℕ). tagFrom (cipher (s .width) (s .«mac_keys»)) k (s .d) (s .chain) (take n (s .tail))) (c .before .before .before .before .before .make-subkeys .ensures) used;
+          ∙ ap₂ (λ (k : Subkeys) (n : ℕ). tagFrom (cipher (s .width) (s .«mac_keys»)) k (s .d) (s .chain) (take n (s .tail))) (made .make-subkeys .ensures) used;
       work = tag .work ∙ ap (λ (n : ℕ). tagFromWork (s .d) (take n (s .tail))) used;
     }
 
 pub tag-of-state-spec : {M : Type 1} → statement M
 tag-of-state-spec =
     tie.close
-    (tie.spec
-    engine-requires
-    make-subkeys-requires
-    sub-tag-from
-    part-tag-from-start
-    part-tag-from-end
-    tag-from-requires
-    returns)
+    (tie.spec engine-requires make-subkeys-requires sub-tag-from part-tag-from-start part-tag-from-end
+    tag-from-requires returns)

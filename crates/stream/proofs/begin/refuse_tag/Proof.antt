@@ -1,6 +1,7 @@
 -- `stream::begin::refuse_tag` meets its contract.
 -- Assumes nothing.
-use mathlib.Core.Path.{refl}
+use mathlib.Core.Path.{refl, _∙_}
+use mathlib.Core.List.{[]}
 use borrow.Author.Needs.{needs}
 use borrow.Author.Tests.{eq-eqb, ne-eqb}
 use Rattle.answers.proofs.Laws.{told-refused, told-ok, told-length}
@@ -13,11 +14,15 @@ enum-told c = search needs
 ended-requires : tie.Need-ended-requires
 ended-requires c κs = search needs
 
+refused-requires : tie.Need-refused-requires
+refused-requires c κs = search needs
+
 returns : tie.Need-returns
 returns c =
-    let before = c .before .before .before .args .before in
-    let due = ne-eqb _ _ (told-refused before (c .before .before .match .keys1)) in
-    record { outcome = simp due (told-length before (c .before .before .match .keys1)); state = c .ended .ensures; output = refl }
+    let before = c .before .before .before .before .args .before in
+    let told = c .before .before .before .match .keys1 in
+    let step = c .refused .ensures [] in
+    record { outcome = step .outcome ∙ simp (ne-eqb _ _ (told-refused before told)) (told-length before told); state = step .state ∙ c .before .ended .ensures; output = refl }
 
 enum-told-2 : tie.Need-enum-told-2
 enum-told-2 c = search needs
@@ -25,11 +30,16 @@ enum-told-2 c = search needs
 ended-requires-2 : tie.Need-ended-requires-2
 ended-requires-2 c κs = search needs
 
+refused-requires-2 : tie.Need-refused-requires-2
+refused-requires-2 c κs = search needs
+
 returns-2 : tie.Need-returns-2
 returns-2 c =
-    let none = eq-eqb _ _ (told-ok (c .before .before .before .args .before) (c .before .before .match .keys2)) in
-    record { outcome = simp none; state = c .ended2 .ensures; output = refl }
+    let before = c .before .before .before .before .args .before in
+    let step = c .refused2 .ensures [] in
+    record { outcome = step .outcome ∙ simp (eq-eqb _ _ (told-ok before (c .before .before .before .match .keys2))); state = step .state ∙ c .before .ended2 .ensures; output = refl }
 
 pub refuse-tag-spec : {M : Type 1} → statement M
 refuse-tag-spec =
-    tie.close (tie.spec enum-told ended-requires returns enum-told-2 ended-requires-2 returns-2)
+    tie.close
+    (tie.spec enum-told ended-requires refused-requires returns enum-told-2 ended-requires-2 refused-requires-2 returns-2)

@@ -50,13 +50,17 @@ returns-4 c =
     let past = subst (λ (m : ℕ). m < args .s .written) (sym (limited (c .before .before))) (c .if4 .taken) in
     simp (eq-eqb _ _ (c .before .before .before .before .before .before .before .if1 .left), wide (c .before .before .before .before .before .before) ∙ not-false _ (c .before .before .before .before .before .if2 .left), le-ltb _ _ (c .before .before .before .if3 .left), lt-ltb _ _ past)
 
+-- the start, from where written is judged
+abbrev start-of : tie.Else4 → tie.Start
+start-of c = c .before .before .before .before .before .before .before .before .before
+
 -- past stage, width, total and written, the tail's length, the kept block and the tail's unused bytes decide
 tail-decides : (c : tie.Else4)
-    → let args = c .before .before .before .before .before .before .before .before .before .args in
+    → let args = start-of c .args in
     fits (args .wanted) (args .s) ≡ (eqb (args .s .«tail_len») (tailLength (args .s .total)) && keptFits (args .wanted) (args .s) && allZero (drop (tailLength (args .s .total)) (args .s .tail)))
 unfolding fits
 tail-decides c =
-    let args = c .before .before .before .before .before .before .before .before .before .args in
+    let args = start-of c .args in
     let within = subst (λ (m : ℕ). args .s .written ≤ m) (sym (limited (c .before .before))) (c .if4 .left) in
     simp (eq-eqb _ _ (c .before .before .before .before .before .before .before .if1 .left), wide (c .before .before .before .before .before .before) ∙ not-false _ (c .before .before .before .before .before .if2 .left), le-ltb _ _ (c .before .before .before .if3 .left), le-ltb _ _ within) refl
 
@@ -64,7 +68,7 @@ is-tail-len-requires : tie.Need-is-tail-len-requires
 is-tail-len-requires c κs = search needs
 
 -- and so is its tail's length
-tailed : (c : tie.After-is-tail-len) → eqb (c .before .before .before .before .before .before .before .before .before .before .args .s .«tail_len») (tailLength (c .before .before .before .before .before .before .before .before .before .before .args .s .total)) ≡ c .is-tail-len .result
+tailed : (c : tie.After-is-tail-len) → eqb (start-of (c .before) .args .s .«tail_len») (tailLength (start-of (c .before) .args .s .total)) ≡ c .is-tail-len .result
 tailed c = sym (c .is-tail-len .ensures)
 
 returns-5 : tie.Need-returns-5
@@ -74,25 +78,25 @@ kept-fits-requires : tie.Need-kept-fits-requires
 kept-fits-requires c κs = search needs
 
 -- and the kept block is
-kept : (c : tie.After-kept-fits) → keptFits (c .before .before .before .before .before .before .before .before .before .before .before .before .args .wanted) (c .before .before .before .before .before .before .before .before .before .before .before .before .args .s) ≡ c .kept-fits .result
+kept : (c : tie.After-kept-fits) → keptFits (start-of (c .before .before .before) .args .wanted) (start-of (c .before .before .before) .args .s) ≡ c .kept-fits .result
 kept c = sym (c .kept-fits .ensures)
 
 -- the tail's length agrees from there on
-agrees : (c : tie.Else5) → eqb (c .before .before .before .before .before .before .before .before .before .before .before .args .s .«tail_len») (tailLength (c .before .before .before .before .before .before .before .before .before .before .before .args .s .total)) ≡ true
+agrees : (c : tie.Else5) → eqb (start-of (c .before .before) .args .s .«tail_len») (tailLength (start-of (c .before .before) .args .s .total)) ≡ true
 agrees c = tailed (c .before) ∙ not-false _ (c .if5 .left)
 
 returns-6 : tie.Need-returns-6
 returns-6 c = sym (tail-decides (c .before .before .before .before) ∙ simp (agrees (c .before .before), kept (c .before) ∙ not-true _ (c .if6 .taken)))
 
 slice-aggregate-zero-from : tie.Need-slice-aggregate-zero-from
-slice-aggregate-zero-from c = sym (tail-length (c .before .before .before .before .before .before .before .before .before .before .before .before .before .before .before))
+slice-aggregate-zero-from c = sym (tail-length (start-of (c .before .before .before .before .before .before)))
 
 zero-from-requires : tie.Need-zero-from-requires
 zero-from-requires c κs = search needs
 
 returns-7 : tie.Need-returns-7
 returns-7 c =
-    let s = c .before .before .before .before .before .before .before .before .before .before .before .before .before .before .before .before .args .s in
+    let s = start-of (c .before .before .before .before .before .before .before) .args .s in
     let tailed = agrees (c .before .before .before .before .before) in
     let whole = kept (c .before .before .before .before) ∙ not-false _ (c .before .before .before .if6 .left) in
     c .zero-from .ensures ∙ ap (λ (k : ℕ). allZero (drop k (s .tail))) (eqb-true (s .«tail_len») (tailLength (s .total)) tailed) ∙ sym (tail-decides (c .before .before .before .before .before .before .before) ∙ simp (tailed, whole))
@@ -100,17 +104,5 @@ returns-7 c =
 pub fits-spec : {M : Type 1} → statement M
 fits-spec =
     tie.close
-    (tie.spec
-    returns
-    is-width-requires
-    returns-2
-    returns-3
-    written-limit-requires
-    returns-4
-    is-tail-len-requires
-    returns-5
-    kept-fits-requires
-    returns-6
-    slice-aggregate-zero-from
-    zero-from-requires
-    returns-7)
+    (tie.spec returns is-width-requires returns-2 returns-3 written-limit-requires returns-4 is-tail-len-requires
+    returns-5 kept-fits-requires returns-6 slice-aggregate-zero-from zero-from-requires returns-7)

@@ -38,10 +38,4 @@ returns-2 c = c .zero-from .ensures ∙ sym (by-place (c .before .before .before
 
 pub kept-fits-spec : {M : Type 1} → statement M
 kept-fits-spec =
-    tie.close
-    (tie.spec
-    stream-place-requires
-    returns
-    slice-aggregate-zero-from
-    zero-from-requires
-    returns-2)
+    tie.close (tie.spec stream-place-requires returns slice-aggregate-zero-from zero-from-requires returns-2)
