@@ -4,11 +4,11 @@
  * The header of a record is two strings, associated data and then a nonce, as in section 3 of the RFC. A sealed record
  * is the tag of 16 bytes, then the ciphertext, which is as long as the plaintext.
  *
- * kinphlor_seal and kinphlor_open work under one key. kinphlor_open_ring is for the time in which keys change: it tries
- * the keys of a ring from slot 0 on and stops at the first that opens the record. With a ring of one key it does what
- * kinphlor_open does. Two functions below are for planning: kinphlor_planned_work tells how many blocks a record of
- * known lengths takes, kinphlor_worst_header how many its header strings can take at the most while their lengths are
- * open.
+ * kinphlor_seal and kinphlor_open work under one key. kinphlor_open_ring is for the time in which keys change:
+ * it tries the keys of a ring from slot 0 on and stops at the first that opens the record. With a ring of one
+ * key it does what kinphlor_open does. Two functions below are for planning: kinphlor_planned_work tells how
+ * many blocks a record of known lengths takes, kinphlor_worst_header how many its header strings can take at
+ * the most while their lengths are open.
  *
  * seal, open and open_ring take the same arguments but for the keys. n is the plaintext's length.
  *
@@ -114,10 +114,10 @@ uint64_t kinphlor_open_ring(size_t key_len, const uint8_t *ring, size_t ring_len
 uint64_t kinphlor_planned_work(uint32_t ad_len, uint32_t nonce_len, size_t n);
 
 /*
- * The worst header, for whoever has not picked the header strings yet. Of all lists of count lengths that sum to
- * header_len, none of them under least, it writes one whose strings have the most blocks, counted as above. No other
- * such list has more. Several may have as many; which of them is written is left open, and may be another in a later
- * version.
+ * The worst header, for whoever has not picked the header strings yet. Of all lists of count lengths that
+ * sum to header_len, none of them under least, it writes one whose strings have the most blocks, counted
+ * as above. No other such list has more. Several may have as many; which of them is written is left open,
+ * and may be another in a later version.
  *
  *   header_len  how many bytes the strings have together: at most 1,048,576, and not under count times least
  *   count       how many strings there are: 1 to 126
@@ -128,10 +128,10 @@ uint64_t kinphlor_planned_work(uint32_t ad_len, uint32_t nonce_len, size_t n);
  * kinphlor_blocks). With other figures the answer is 12, and the blocks and all places are 0; there is no other
  * refusal. A record behind such a header takes the sum above, with these blocks for its strings.
  *
- * The header of kinphlor_seal has two strings, of which the associated data may be empty and the nonce may not: ask
- * with count 2, least 0 and a header_len of 1 or more. If the second length is then 0, exchange the two: a list's
- * blocks do not depend on its order. More strings are for records that a program in Rattle seals. lens must be valid
- * for 126 numbers and not null.
+ * The header of kinphlor_seal has two strings, of which the associated data may be empty and the nonce may not:
+ * ask with count 2, least 0 and a header_len of 1 or more. If the second length is then 0, exchange the two: a
+ * list's blocks do not depend on its order. More strings are for records that a program in Rattle seals. lens
+ * must be valid for 126 numbers and not null.
  */
 uint64_t kinphlor_worst_header(size_t header_len, size_t count, size_t least, uint32_t lens[KINPHLOR_STRINGS_MAX]);
 

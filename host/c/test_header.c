@@ -1,5 +1,5 @@
-/* kinphlor.h called from C and C++: sealing, opening, rings, damaged records, NULL for empty buffers,
-   planned work, worst headers, texts. */
+/* kinphlor.h called from C and C++: sealing, opening, rings, damaged records,
+   NULL for empty buffers, planned work, worst headers, texts. */
 #include "kinphlor.h"
 
 #include <stdio.h>
@@ -279,8 +279,8 @@ static void worst_header(void) {
     }
 }
 
-/* The worst header of two strings, asked for as kinphlor.h says: a record is sealed behind it, and none takes more
-   blocks. */
+/* The worst header of two strings, asked for as kinphlor.h says: a record is sealed behind it,
+   and none takes more blocks. */
 static void worst_pair(uint32_t header_len) {
     uint32_t lens[KINPHLOR_STRINGS_MAX], nonce_len;
     const uint64_t result = kinphlor_worst_header(header_len, 2, 0, lens);

@@ -1,5 +1,5 @@
-//! AES below the modes, by libcrypto: the round keys of a key, and the cipher under any round keys, whose calls are
-//! counted.
+//! AES below the modes, by libcrypto: the round keys of a key, and the cipher under any
+//! round keys, whose calls are counted.
 
 use shared::check;
 use shared::mac::{Block, BlockCipher};

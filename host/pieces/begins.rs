@@ -1,5 +1,5 @@
-//! The table of answers for making and extending a head and for every begin, and the head or state that each hands
-//! back.
+//! The table of answers for making and extending a head and for every begin, and the
+//! head or state that each hands back.
 
 use crate::fields::Fields;
 use crate::head::Head;

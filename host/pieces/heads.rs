@@ -1,5 +1,5 @@
-//! Prepared heads: every split of a list into a head's strings and the rest, heads with a field spoiled, and a wall
-//! unit's records from one head.
+//! Prepared heads: every split of a list into a head's strings and the rest, heads with a field spoiled,
+//! and a wall unit's records from one head.
 
 use crate::begins::{Case, Gives};
 use crate::call::{Call, Kind};
@@ -90,8 +90,8 @@ fn split(peers: &Peers, random: &mut Random, context: &Context, at: usize) {
     }
 }
 
-/// A record by pieces from a head: sealed, opened, and refused where it is damaged, each with the work of the rest
-/// alone.
+/// A record by pieces from a head: sealed, opened, and refused where it is damaged, each
+/// with the work of the rest alone.
 pub fn record(random: &mut Random, head: &Head, rest: Header, plain: &[u8], sealed: &[u8], what: impl Fn() -> String) {
     let (piece, n) = (random.pick(&PIECE_LENS), plain.len());
     let adds = pieces(Kind::Add, plain, piece);
@@ -133,8 +133,8 @@ fn run(head: &Head, rest: Header, tag: Option<&[u8]>, calls: &[(Kind, &[u8])], o
         let more;
         (number, length, more) = probe::step(&mut state, &call, &mut output[written..]);
         work += more;
-        // Tag and ciphertext stand one behind the other. The opener's calls have their one output from its first byte
-        // on.
+        // Tag and ciphertext stand one behind the other. The opener's calls have their one
+        // output from its first byte on.
         if matches!(kind, Kind::Turn | Kind::Write) {
             written += length as usize;
         }

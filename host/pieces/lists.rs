@@ -301,8 +301,8 @@ impl List<'_> {
         (kind, want.0)
     }
 
-    /// The state after a call: as it was where the call was refused, else the model's, with the call's own fields
-    /// changed.
+    /// The state after a call: as it was where the call was refused, else the model's, with
+    /// the call's own fields changed.
     fn check_state(&self, what: impl Fn() -> String, kind: Kind, number: u64, before: &State) {
         if ![0, 8].contains(&number) {
             return self.state.check(|| format!("{}: refused", what()), before);

@@ -44,8 +44,8 @@ pub fn run(Pieces { peers, random, noise, .. }: &mut Pieces) {
                 for (changed, state) in spoiled_states(random, &good) {
                     run_all(&state, changed, noise, &mut seen);
                 }
-                // At the limit outputs are long, so that of the changes only some are tried there, and of the tail
-                // lengths all.
+                // At the limit outputs are long, so that of the changes only some are tried there,
+                // and of the tail lengths all.
                 if [16, 31].contains(&total) {
                     let states = spoiled_states(random, &with_more(&good, LIMIT));
                     for (i, (changed, state)) in states.into_iter().enumerate() {
@@ -61,8 +61,8 @@ pub fn run(Pieces { peers, random, noise, .. }: &mut Pieces) {
     seen.check();
 }
 
-/// States with so many bytes added or fed: adding; writing with nothing, some and all written; feeding a genuine
-/// string.
+/// States with so many bytes added or fed: adding; writing with nothing, some and all
+/// written; feeding a genuine string.
 fn good_states(peers: &Peers, random: &mut Random, context: &Context, total: usize) -> Vec<State> {
     let plain = random.bytes(total);
     let sealed = peers.seal(context, &plain);

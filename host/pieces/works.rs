@@ -1,7 +1,7 @@
-//! The work of calls at every short length: whole calls under keys and rings, heads and what begins from them; what is
-//! planned; and records behind the worst headers. Each call's work is held against the sum of slip 5 where the call is
-//! made (whole::run, heads::made, heads::record), and that sum here against a count of what goes through the cipher of
-//! a plain AES-SIV.
+//! The work of calls at every short length: whole calls under keys and rings, heads and what begins from them;
+//! what is planned; and records behind the worst headers. Each call's work is held against the sum of slip 5
+//! where the call is made (whole::run, heads::made, heads::record), and that sum here against a count of what
+//! goes through the cipher of a plain AES-SIV.
 
 use crate::aes::counted;
 use crate::heads;

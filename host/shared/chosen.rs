@@ -1,6 +1,6 @@
-//! Sealed strings with a chosen tag, by one who holds the key. S2V runs backwards: the cipher's inverse on the tag
-//! gives what the last block must bring. So a tag with any end is there at once, where a search for four bytes would
-//! take hours.
+//! Sealed strings with a chosen tag, by one who holds the key. S2V runs backwards: the cipher's inverse
+//! on the tag gives what the last block must bring. So a tag with any end is there at once, where a
+//! search for four bytes would take hours.
 
 use crate::library::TAG_LEN;
 use crate::mac::{last_block, pad, subkey, xor, BlockCipher, Mac};

@@ -1,5 +1,5 @@
-//! What the programs in Rust share: the archive and its peers as safe Rust, lent memory, counted checks, seeded
-//! numbers.
+//! What the programs in Rust share: the archive and its peers as safe Rust, lent memory,
+//! counted checks, seeded numbers.
 
 pub mod answers;
 pub mod check;

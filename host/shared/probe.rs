@@ -1,5 +1,5 @@
-//! The whole calls of libprobe.a, with any header list, a whole string by pieces, and records from one head, as safe
-//! Rust.
+//! The whole calls of libprobe.a, with any header list, a whole string by pieces, and
+//! records from one head, as safe Rust.
 
 use crate::check::fail;
 use crate::library::{self, Function};
@@ -107,8 +107,8 @@ pub fn by_pieces(function: Function, given: &Given, n: usize, output: &mut [u8])
     cut([probe_seal_pieces, probe_open_pieces], function, given, n, output)
 }
 
-/// Records with n bytes of plaintext each, all begun from one head: a refusal of the lengths, else the first refusal,
-/// else the last answer.
+/// Records with n bytes of plaintext each, all begun from one head: a refusal of the lengths, else the
+/// first refusal, else the last answer.
 pub fn records(function: Function, given: &Given, n: usize, output: &mut [u8]) -> Answer {
     cut([probe_seal_records, probe_open_records], function, given, n, output)
 }

@@ -12,9 +12,9 @@ use Function::OpenRing;
 /// One of several slots: how many there are, and which it is.
 const PLACES: [(usize, usize); 9] = [(2, 0), (2, 1), (3, 0), (3, 1), (3, 2), (4, 0), (4, 1), (4, 2), (4, 3)];
 
-/// A ring with the key at one slot, and this slot: another place in each call. The strangers beside it differ from the
-/// key by a byte of the half that serves the tag, so nothing opens under both; by all its bits, for tests change single
-/// ones.
+/// A ring with the key at one slot, and this slot: another place in each call. The strangers beside it
+/// differ from the key by a byte of the half that serves the tag, so nothing opens under both; by all
+/// its bits, for tests change single ones.
 pub fn around(key: &[u8]) -> (Vec<u8>, usize) {
     static CALLS: AtomicUsize = AtomicUsize::new(0);
     let call = CALLS.fetch_add(1, Ordering::Relaxed);

@@ -74,8 +74,8 @@ const DAMAGES: [(&str, fn(&mut Record, &mut Random) -> bool); 9] = [
         let half = r.key.len() / 2;
         random.flip(&mut r.key[..half])
     }),
-    // This half gives the key stream: an empty plaintext has none, and the few bytes of a short one may come out the
-    // same.
+    // This half gives the key stream: an empty plaintext has none, and the few bytes of a
+    // short one may come out the same.
     ("second half of the key", |r, random| {
         let half = r.key.len() / 2;
         r.text.len() >= TAG_LEN + 16 && random.flip(&mut r.key[half..])
@@ -190,8 +190,8 @@ impl Cases {
         }
     }
 
-    /// Every single bit of a sealed record flipped; and of its tag with the text enciphered for that tag, so that only
-    /// the comparison of this bit can tell.
+    /// Every single bit of a sealed record flipped; and of its tag with the text enciphered for that tag, so that
+    /// only the comparison of this bit can tell.
     pub fn every_bit(&mut self) {
         for key_len in KEY_LENS {
             let record = Record::random(&mut self.random, key_len, 20, 12, 40);
@@ -226,9 +226,9 @@ impl Cases {
         }
     }
 
-    /// Tags from which the counter carries out of its last byte, its last two, three and four (into the bit that Q
-    /// clears, set or not in the tag), in the second block, in the third and in the last; at the limit in the last
-    /// only.
+    /// Tags from which the counter carries out of its last byte, its last two, three and four (into
+    /// the bit that Q clears, set or not in the tag), in the second block, in the third and in the
+    /// last; at the limit in the last only.
     pub fn chosen_tags(&mut self) {
         let mut random = Random(self.random.next());
         for key_len in KEY_LENS {

@@ -1,5 +1,5 @@
-//! libkinphlor.a against OpenSSL's libcrypto and libgcrypt, and its worst headers against lists made here. Its last
-//! line is `host: N checks passed`.
+//! libkinphlor.a against OpenSSL's libcrypto and libgcrypt, and its worst headers against lists made here.
+//! Its last line is `host: N checks passed`.
 
 mod cases;
 mod worst_header;

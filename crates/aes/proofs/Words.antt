@@ -44,7 +44,7 @@ own w = record { row0 = refl; row1 = refl; row2 = refl; row3 = refl }
 pub word-is : (a b c d w : ℕ) → a < 0x100 → b < 0x100 → c < 0x100 → d < 0x100 → w ≡ a + b * 0x100 + c * 0x10000 + d * 0x1000000 → WordIs a b c d w
 word-is a b c d w ha hb hc hd e = record { row0 = omega arith; row1 = omega arith; row2 = omega arith; row3 = omega arith }
 
--- a number, its quotient by 256 and the rest
+-- a number, its quotient by 0x100 and the rest
 digit : (n : ℕ) {q r : ℕ} → n / 0x100 ≡ q → n % 0x100 ≡ r → n ≡ q * 0x100 + r
 digit n e f = sym (div-add-mod' n 0x100) ∙ ap₂ (λ (x y : ℕ). x * 0x100 + y) e f
 

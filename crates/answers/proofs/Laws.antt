@@ -131,15 +131,15 @@ told-length (Ok n) k = let z : _≡_ {A = ℕ} 0 1 = k in absurd (omega arith)
 told-length (Refused r) k = refl
 
 -- a judgement that is a refusal was due, and past one that is not none was
-pub due : (a : Answer) (n : ℕ) → IsRefused a → outcomeOf a 0 ≡ refusal n → n ≡ 0 → ⊥
-due a n k e z = told-refused a k (ap (λ (o : Outcome). o .number) e ∙ z)
+pub was-due : (a : Answer) (n : ℕ) → IsRefused a → outcomeOf a 0 ≡ refusal n → n ≡ 0 → ⊥
+was-due a n k e z = told-refused a k (ap (λ (o : Outcome). o .number) e ∙ z)
 
 pub passed : (a : Answer) (n : ℕ) → IsOk a → outcomeOf a 0 ≡ refusal n → n ≡ 0
 passed a n k e = sym (ap (λ (o : Outcome). o .number) e) ∙ told-ok a k
 
 -- a refusal stays due whatever rows come behind
 pub still-due : (a : Answer) (rows rest : List Row) → IsRefused a → Judges rows a → Judges (rows ++ rest) a
-still-due a rows rest k e = e ∙ ap refusal (sym (first-stop rows rest (due a (first rows) k e)))
+still-due a rows rest k e = e ∙ ap refusal (sym (first-stop rows rest (was-due a (first rows) k e)))
 
 -- past a judgement the rows behind decide
 pub next-due : (a : Answer) (rows rest : List Row) → lacks 0 rows ≡ true → IsOk a → Judges rows a
@@ -171,15 +171,15 @@ module _ {A : Type 0} (n : ℕ) (complete : A) (refused : ℕ → A) where
 pub by-refusal : {A : Type 0} (n : ℕ) (complete : A) (leaves : Outcome → A) (P : A → Type 0) (a : Answer) → IsRefused a → outcomeOf a 0 ≡ refusal n
     → P (leaves (outcomeOf a 0)) → P (settle n complete (λ m. leaves (refusal m)))
 by-refusal n complete leaves P a k e p =
-    subst P (ap leaves e ∙ sym (settle-refused n complete (λ m. leaves (refusal m)) (due a n k e))) p
+    subst P (ap leaves e ∙ sym (settle-refused n complete (λ m. leaves (refusal m)) (was-due a n k e))) p
 
 -- where 8 leaves something of its own
 module _ {A : Type 0} (n : ℕ) (complete forgery : A) (refused : ℕ → A) where
   pub settle-forged : n ≡ 8 → settle n complete (forgedOr forgery refused) ≡ forgery
   settle-forged e = ap (λ (m : ℕ). settle m complete (forgedOr forgery refused)) e
 
-  pub settle-unread : (n ≡ 0 → ⊥) → (n ≡ 8 → ⊥) → settle n complete (forgedOr forgery refused) ≡ refused n
-  settle-unread z e = settle-refused n complete (forgedOr forgery refused) z ∙ ap (λ (t : Bool). cond t forgery (refused n)) (ne-eqb n 8 e)
+  pub settle-other : (n ≡ 0 → ⊥) → (n ≡ 8 → ⊥) → settle n complete (forgedOr forgery refused) ≡ refused n
+  settle-other z e = settle-refused n complete (forgedOr forgery refused) z ∙ ap (λ (t : Bool). cond t forgery (refused n)) (ne-eqb n 8 e)
 
   pub settle-verdict : (numberIn : A → ℕ) → numberIn complete ≡ 0 → numberIn forgery ≡ 8 → ((m : ℕ) → numberIn (refused m) ≡ m)
       → numberIn (settle n complete (forgedOr forgery refused)) ≡ n
@@ -189,42 +189,50 @@ module _ {A : Type 0} (n : ℕ) (complete forgery : A) (refused : ℕ → A) whe
       go m (yes p) = ap numberIn (ap (λ (t : Bool). cond t forgery (refused m)) (eq-eqb m 8 p)) ∙ e ∙ sym p
       go m (no p) = ap numberIn (ap (λ (t : Bool). cond t forgery (refused m)) (ne-eqb m 8 p)) ∙ named m
 
--- two calls that one number settles are related as their cases are
-pub alike : {A B : Type 0} (R : A → B → Type 0) (t : Bool) {a b : A} {c d : B} → R a c → R b d → R (cond t a b) (cond t c d)
-alike R true p q = p
-alike R false p q = q
+-- values that a test picks are related where both pairs are
+pub cond-related : {A B : Type 0} (R : A → B → Type 0) (t : Bool) {a b : A} {c d : B} → R a c → R b d → R (cond t a b) (cond t c d)
+cond-related R true p q = p
+cond-related R false p q = q
 
 -- a table whose last row is 8, due unless a test is passed: the rows before it decide, and past them the test
-module _ (rows : List Row) (test : Bool) (present : lacks 0 rows ≡ true) (readable : lacks 8 rows ≡ true) where
+module _ (rows : List Row) (test : Bool) where
   abbrev table : List Row
   table = rows ++ (row 8 (not test) ∷ [])
 
-  pub forged-stop : (first rows ≡ 0 → ⊥) → first table ≡ first rows
-  forged-stop z = first-stop rows (row 8 (not test) ∷ []) z
+  pub by-rows : (first rows ≡ 0 → ⊥) → first table ≡ first rows
+  by-rows z = first-stop rows (row 8 (not test) ∷ []) z
 
-  pub forged-test : first rows ≡ 0 → first table ≡ cond (not test) 8 0
-  forged-test e = first-pass rows (row 8 (not test) ∷ []) present e
-
-  pub rows-not-8 : first rows ≡ 8 → ⊥
-  rows-not-8 e = first-not 8 rows readable (λ q. omega arith) e
+  pub by-test : lacks 0 rows ≡ true → first rows ≡ 0 → first table ≡ cond (not test) 8 0
+  by-test no-0 e = first-pass rows (row 8 (not test) ∷ []) no-0 e
 
   -- 0 and 8 passed the rows before, and any other number did not
-  pub passed-at-0 : first table ≡ 0 → first rows ≡ 0
-  passed-at-0 e = first-none rows (row 8 (not test) ∷ []) present e .0
+  pub passed-at-0 : lacks 0 rows ≡ true → first table ≡ 0 → first rows ≡ 0
+  passed-at-0 no-0 e = first-none rows (row 8 (not test) ∷ []) no-0 e .0
 
-  pub passed-at-8 : first table ≡ 8 → first rows ≡ 0
-  passed-at-8 e = go (ℕ-discrete (first rows) 0)
+  pub passed-at-8 : lacks 8 rows ≡ true → first table ≡ 8 → first rows ≡ 0
+  passed-at-8 no-8 e = go (ℕ-discrete (first rows) 0)
     where
       go : Dec (first rows ≡ 0) → first rows ≡ 0
       go (yes z) = z
-      go (no z) = absurd (rows-not-8 (sym (forged-stop z) ∙ e))
+      go (no z) = absurd (first-not 8 rows no-8 (λ q. omega arith) (sym (by-rows z) ∙ e))
 
-  pub unread : (first table ≡ 0 → ⊥) → (first table ≡ 8 → ⊥) → first rows ≡ 0 → ⊥
-  unread z e none = go test (forged-test none)
+  pub unpassed : lacks 0 rows ≡ true → (first table ≡ 0 → ⊥) → (first table ≡ 8 → ⊥) → first rows ≡ 0 → ⊥
+  unpassed no-0 z e none = go test (by-test no-0 none)
     where
       go : (t : Bool) → first table ≡ cond (not t) 8 0 → ⊥
       go true n = z n
       go false n = e n
+
+  -- a call with this table: a refusal of the rows before, or by the test
+  module _ {A : Type 0} (complete forgery : A) (refused : ℕ → A) where
+    pub settle-rows : lacks 8 rows ≡ true → (first rows ≡ 0 → ⊥) → settle (first table) complete (forgedOr forgery refused) ≡ refused (first rows)
+    settle-rows no-8 z =
+        let same = by-rows z in
+        settle-other (first table) complete forgery refused (λ e. z (sym same ∙ e)) (λ e. first-not 8 rows no-8 (λ q. omega arith) (sym same ∙ e)) ∙ ap refused same
+
+    pub settle-test : lacks 0 rows ≡ true → (t : Bool) → test ≡ t → first rows ≡ 0 → settle (first table) complete (forgedOr forgery refused) ≡ cond t complete forgery
+    settle-test no-0 true e none = settle-complete (first table) complete (forgedOr forgery refused) (by-test no-0 none ∙ ap (λ (b : Bool). cond (not b) 8 0) e)
+    settle-test no-0 false e none = settle-forged (first table) complete forgery refused (by-test no-0 none ∙ ap (λ (b : Bool). cond (not b) 8 0) e)
 
 -- with another work number and length are the same
 pub outcome-with : (a : Answer) (w w′ : ℕ) {o : Outcome} {v : ℕ} → outcomeOf a w ≡ o → w′ ≡ v → outcomeOf a w′ ≡ record { number = o .number; count = o .count; work = v }

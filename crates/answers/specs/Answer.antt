@@ -31,7 +31,8 @@ numberOf EmptyNonce = 10
 numberOf RingLength = 11
 numberOf HeaderPlan = 12
 
--- success with a length and its work; a number with length 0 and no work; and 8, which has work
+-- success with a length and its work; a refusal by its number, with length 0 and no work; and 8, which has work.
+-- No refusal has the number 0: `refusal 0` is success with length 0 and no work
 abbrev pub success : ℕ → ℕ → Outcome
 success n w = record { number = 0; count = n; work = w }
 

@@ -1,4 +1,5 @@
--- CMAC with a 16-byte tag, SP 800-38B, over any block function E; beside what calls E stands its work, the calls of E.
+-- CMAC with a 16-byte tag, SP 800-38B, over any block function E;
+-- beside what calls E stands its work, the number of these calls.
 -- Assumes nothing.
 use mathlib.Core.Path.{_≡_}
 use mathlib.Core.Bool.{cond}

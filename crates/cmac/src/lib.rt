@@ -19,6 +19,7 @@ pub struct Subkeys {
     pub k2: Block,
 }
 
+// SP 800-38B, 5.3: R for blocks of 128 bits.
 const R: Block = [0, 0, 0, 0, 0, 0, 0, 0, 0, 0, 0, 0, 0, 0, 0, 0x87];
 
 // A byte moved left by one bit, with the top bit of the next.

@@ -1,6 +1,6 @@
 // SP 800-38B's examples of CMAC with AES: the subkeys, and the tags of 0, 16, 40 and 64 bytes, for the three widths.
 ghost use Prim.Native.Nat.{_≤_};
-ghost use Rattle.aes.specs.Engine.{Ready};
+ghost use Rattle.aes.specs.Engine.{Ready, CanEncrypt};
 use aes::Engine;
 use aes::RoundKeys;
 use cmac::Subkeys;
@@ -78,7 +78,7 @@ const MESSAGE: [u8; 64] = [
 
 // Prints the tag of the first n bytes of the message.
 fn tag(engine: &Engine, width: usize, keys: &RoundKeys, k: Subkeys, label: &[u8], n: usize)
-    requires { ⌜ Ready (now engine) × (width ≤ 32) × (n ≤ 64) ⌝ }
+    requires { ⌜ CanEncrypt (now engine) width × (n ≤ 64) ⌝ }
 {
     let mac = cmac::cmac_from(engine, width, keys, k, [0u8; 16], &MESSAGE[0..n]);
     let t = mac.block;
@@ -94,7 +94,7 @@ fn print_subkeys(k: Subkeys) {
 }
 
 fn tags(engine: &Engine, width: usize, keys: &RoundKeys, k: Subkeys)
-    requires { ⌜ Ready (now engine) × (width ≤ 32) ⌝ }
+    requires { ⌜ CanEncrypt (now engine) width ⌝ }
 {
     tag(engine, width, keys, k, b"     0", 0);
     tag(engine, width, keys, k, b"    16", 16);

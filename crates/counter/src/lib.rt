@@ -16,7 +16,7 @@ pub fn initial_counter(v: Block) -> Block
 }
 
 // The number of eight bytes, the first the highest.
-fn number_of_bytes(a: u8, b: u8, c: u8, d: u8, e: u8, f: u8, g: u8, h: u8) -> u64
+fn number_from_bytes(a: u8, b: u8, c: u8, d: u8, e: u8, f: u8, g: u8, h: u8) -> u64
     ensures { λ r. ⌜ r ≡ number (a ∷ b ∷ c ∷ d ∷ e ∷ f ∷ g ∷ h ∷ []) ⌝ }
 {
     a as u64 * 0x100000000000000
@@ -33,14 +33,14 @@ fn number_of_bytes(a: u8, b: u8, c: u8, d: u8, e: u8, f: u8, g: u8, h: u8) -> u6
 fn high(q: Block) -> u64
     ensures { λ r. ⌜ r ≡ number (entries 8 0 q) ⌝ }
 {
-    number_of_bytes(q[0], q[1], q[2], q[3], q[4], q[5], q[6], q[7])
+    number_from_bytes(q[0], q[1], q[2], q[3], q[4], q[5], q[6], q[7])
 }
 
 // The number of the second half of a block.
 fn low(q: Block) -> u64
     ensures { λ r. ⌜ r ≡ number (entries 8 8 q) ⌝ }
 {
-    number_of_bytes(q[8], q[9], q[10], q[11], q[12], q[13], q[14], q[15])
+    number_from_bytes(q[8], q[9], q[10], q[11], q[12], q[13], q[14], q[15])
 }
 
 // The block of two halves.

@@ -16,13 +16,13 @@ use Rattle.answers.specs.declared.Answer.the-variants.{Ok, Refused}
 use Rattle.answers.specs.declared.Refusal.{Refusal}
 use Rattle.answers.specs.declared.Refusal.the-variants.{KeyLength, HeaderCount, HeaderLengths, TooLong, SealedLength, OutputShort, ScratchShort, Forged, State, EmptyNonce, RingLength, HeaderPlan}
 use Rattle.answers.specs.Answer.{Outcome, Row, row, first, settle, forgedOr, success, refusal, forged, numberOf, outcomeOf}
-use Rattle.answers.proofs.Laws.{settle-complete, settle-refused, settle-number, settle-forged, settle-unread, settle-verdict, lacks, first-not, first-pass, first-stop, first-none, refusal-number, outcome-work, none-where}
+use Rattle.answers.proofs.Laws.{settle-complete, settle-refused, settle-number, settle-forged, settle-other, settle-verdict, lacks, first-not, first-pass, first-stop, first-none, refusal-number, outcome-work, none-where}
 use Rattle.worst_header.specs.WorstHeader.{planRows, GivesWorst}
 use Rattle.whole.specs.Calls.{CallResult, refusedCall, isKeyLength, headerRows, openRows, sealTable, sealNumber, openTable, openNumber}
 use Rattle.whole.specs.Ring.{slotCount, slotKey, ringRows, RingResult, openSlot, opensAt}
 use Rattle.whole.specs.Siv.{genuine, genuineWork}
 use Rattle.whole.specs.Work.{blockWork}
-use Rattle.whole.proofs.Laws.{header-admits, seal-admits, seal-numbered, seal-complete, seal-untouched, seal-count, openJudged, open-admits, open-passed, open-forged, open-unread, open-numbered, open-complete, open-forgery, open-untouched, open-count}
+use Rattle.whole.proofs.Laws.{header-admits, seal-admits, seal-numbered, seal-complete, seal-untouched, seal-count, openJudged, open-admits, open-passed, open-forged, open-unpassed, open-numbered, open-complete, open-forgery, open-untouched, open-count}
 use Rattle.whole.proofs.Lengths.{sealed-lengths, genuine-lengths}
 use Rattle.whole.proofs.Ring.{RingWhole, ring-admits, slot-keyed, Chosen, chosen-within, chosen-closed, chosen-same, RingCase, tries, refuses, open-ring-case, ring-idle, ring-work}
 use Rattle.head.specs.declared.Head.{Head}
@@ -220,7 +220,7 @@ module _ (keyLength : ℕ) (ring bytes lens input output scratch : List ℕ) whe
               let left = one .forged e in
               (with-work (left .0) (ring-work keyLength ring bytes lens input output scratch due g judged ∙ ap (tried s) (ne-eqb _ 0 (λ y. omega (arith, sym e ∙ y)))), left .1, left .2);
           refused = λ n e m m8.
-              let unread = open-unread (slotKey keyLength ring s) bytes lens input output scratch (λ y. m (sym (told ∙ e) ∙ y)) (λ y. m8 (sym (told ∙ e) ∙ y)) in
+              let unread = open-unpassed (slotKey keyLength ring s) bytes lens input output scratch (λ y. m (sym (told ∙ e) ∙ y)) (λ y. m8 (sym (told ∙ e) ∙ y)) in
               let left = one .refused n e m m8 in
               (with-work (left .0) (ring-idle keyLength ring bytes lens input output scratch due s (chosen-within _ count (ring-admits keyLength (length ring) due .1 .some) g) unread), left .1, left .2);
           slotless = λ m. chosen-closed _ count g (ne-eqb _ 0 m);
@@ -291,7 +291,7 @@ finishing s output =
       done = λ e. settle-complete _ done (forgedOr (forgedStep s output) (λ m. refusedStep m s output)) (sym number ∙ e);
       forged = λ e. settle-forged _ done (forgedStep s output) (λ m. refusedStep m s output) (sym number ∙ e);
       refused = λ m e z z8.
-          settle-unread _ done (forgedStep s output) (λ i. refusedStep i s output) (λ p. z (sym e ∙ number ∙ p)) (λ p. z8 (sym e ∙ number ∙ p))
+          settle-other _ done (forgedStep s output) (λ i. refusedStep i s output) (λ p. z (sym e ∙ number ∙ p)) (λ p. z8 (sym e ∙ number ∙ p))
           ∙ ap (λ (i : ℕ). refusedStep i s output) (sym number ∙ e);
     }
 

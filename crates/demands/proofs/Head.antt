@@ -1,5 +1,5 @@
 -- A list divided into a head and the rest gives what the undivided list gives:
--- both are judged alike, and D goes on where the head left it.
+-- both are judged cond-related, and D goes on where the head left it.
 -- Assumes nothing.
 use mathlib.Core.Path.{_≡_, refl, ap, ap₂, sym, subst, _∙_}
 use mathlib.Core.Bool.{Bool, false, not, cond}
@@ -16,7 +16,7 @@ use Rattle.header.specs.Header.{total, strings}
 use Rattle.header.specs.Blocks.{blocksOfAll}
 use Rattle.header.proofs.Laws.{total-append, total-take, strings-append, length-strings, strings-within, blocks-append}
 use Rattle.answers.specs.Answer.{Row, first, settle}
-use Rattle.answers.proofs.Laws.{first-append, alike}
+use Rattle.answers.proofs.Laws.{first-append, cond-related}
 use Rattle.whole.specs.Calls.{headerRows}
 use Rattle.whole.proofs.Laws.{halves}
 use Rattle.head.specs.declared.Head.{Head}
@@ -83,7 +83,7 @@ module _ (key bytes lens more moreLens : List ℕ) (a : Admits key bytes lens) w
   -- begins that differ in their work alone
   same : (n w w′ : ℕ) (h : Head) (stage : ℕ) (v : List ℕ) → SameButWork (beginBy n w h stage v) (beginBy n w′ h stage v)
   same n w w′ h stage v =
-      alike SameButWork (eqb n 0) (record { number = refl; count = refl; state = refl; output = refl }) (record { number = refl; count = refl; state = refl; output = refl })
+      cond-related SameButWork (eqb n 0) (record { number = refl; count = refl; state = refl; output = refl }) (record { number = refl; count = refl; state = refl; output = refl })
 
   joins : (begin : Begin) → SameButWork (begunFrom (makeHead key bytes lens .head) more moreLens begin) (begun key (bytes ++ more) (lens ++ moreLens) undivided begin)
   unfolding beginSealer beginOpener beginSealerFrom beginOpenerFrom

@@ -13,7 +13,7 @@ use Rattle.octets.specs.Octets.{allZero}
 use Rattle.aes.specs.Aes.{isWidth}
 use Rattle.s2v.specs.S2v.{tailLength}
 use Rattle.answers.specs.Answer.{Outcome, Row, settle, forgedOr}
-use Rattle.answers.proofs.Laws.{alike}
+use Rattle.answers.proofs.Laws.{cond-related}
 use Rattle.whole.specs.Calls.{limit}
 use Rattle.whole.proofs.Laws.{length-streamed}
 use Rattle.head.specs.declared.Head.{Head}
@@ -55,19 +55,19 @@ module _ (wanted : ℕ) (s : Stream) where
 module _ (s : Stream) (n count work : ℕ) (a b : Stream) (like : SameButTailLen a b) (last o : List ℕ) where
   settled : (number : ℕ)
       → SameStep (settle number (doneStep count work a last) (λ m. refusedStep m s o)) (settle number (doneStep count work b last) (λ m. refusedStep m (withTailLen n s) o))
-  settled number = alike SameStep (eqb number 0) (record { outcome = refl; state = like; output = refl }) (record { outcome = refl; state = refl; output = refl })
+  settled number = cond-related SameStep (eqb number 0) (record { outcome = refl; state = like; output = refl }) (record { outcome = refl; state = refl; output = refl })
 
   -- finish has 8 too
   settled-or : (forged : StepResult) (number : ℕ)
       → SameStep (settle number (doneStep count work a last) (forgedOr forged (λ m. refusedStep m s o))) (settle number (doneStep count work b last) (forgedOr forged (λ m. refusedStep m (withTailLen n s) o)))
   settled-or forged number =
-      alike SameStep (eqb number 0) (record { outcome = refl; state = like; output = refl })
-      (alike SameStep (eqb number 8) (record { outcome = refl; state = refl; output = refl }) (record { outcome = refl; state = refl; output = refl }))
+      cond-related SameStep (eqb number 0) (record { outcome = refl; state = like; output = refl })
+      (cond-related SameStep (eqb number 8) (record { outcome = refl; state = refl; output = refl }) (record { outcome = refl; state = refl; output = refl }))
 
--- the number is one where 9 is judged alike and the rows behind it are the same
+-- the number is one where 9 is judged cond-related and the rows behind it are the same
 by-nine : {x y : ℕ → StepResult} → ((number : ℕ) → SameStep (x number) (y number)) → (f g : Bool) (rest : ℕ) → f ≡ g
     → SameStep (x (cond (not f) 9 rest)) (y (cond (not g) 9 rest))
-by-nine {x} {y} alike f g rest e = subst (λ (t : Bool). SameStep (x (cond (not f) 9 rest)) (y (cond (not t) 9 rest))) e (alike (cond (not f) 9 rest))
+by-nine {x} {y} cond-related f g rest e = subst (λ (t : Bool). SameStep (x (cond (not f) 9 rest)) (y (cond (not t) 9 rest))) e (cond-related (cond (not f) 9 rest))
 
 same-call : (s : Stream) (n : ℕ) (o : List ℕ) (c : Call) → ByRule s → SameStep (call s o c) (callWithout (withTailLen n s) o c)
 unfolding callWithout fitsWithout addStep turnStep writeStep closeStep feedStep finishStep added addedWork tagOfState tagOfStateWork streamedAt keptAt

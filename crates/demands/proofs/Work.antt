@@ -23,7 +23,7 @@ use Rattle.keystream.specs.KeyStream.{xorStream}
 use Rattle.keystream.specs.Pieces.{noBlock, begunBlock, leftOver, pieceWork, xorPiece, keptAfter}
 use Rattle.keystream.proofs.Laws.{xorPiece-within, xorPiece-beyond, keptAfter-within, keptAfter-beyond}
 use Rattle.answers.specs.Answer.{Outcome, Row, row, first, settle, forgedOr}
-use Rattle.answers.proofs.Laws.{lacks, first-not, first-none, not-due, alike}
+use Rattle.answers.proofs.Laws.{lacks, first-not, first-none, not-due, cond-related}
 use Rattle.whole.specs.Calls.{CallResult, refusedCall, isKeyLength, limit, sealTable, sealNumber, sealCall, openNumber, openCall}
 use Rattle.whole.specs.Ring.{ringRows, slotCount, slotKey, RingResult}
 use Rattle.whole.specs.Siv.{ctrKey}
@@ -345,7 +345,7 @@ same-answer : (n n′ m w : ℕ) (next next′ s s′ : Stream) (last last′ o 
 unfolding SameAnswer
 same-answer n n′ m w next next′ s s′ last last′ o e =
     subst (λ (k : ℕ). settle n (doneStep m w next last) (λ i. refusedStep i s o) .outcome ≡ settle k (doneStep m w next′ last′) (λ i. refusedStep i s′ o) .outcome) e
-    (alike SameAnswer (eqb n 0) refl refl)
+    (cond-related SameAnswer (eqb n 0) refl refl)
 
 module _ (s : Stream) (kept shared : List ℕ) where
   -- the state with another kept block
@@ -379,7 +379,7 @@ module _ (s : Stream) (kept shared : List ℕ) where
   unjudged finish begun =
       subst (λ (k : ℕ). finishStep changed shared .outcome ≡ settle k (doneStep (s .total) (tagOfStateWork s) ended shared) (forgedOr (forgedStep s shared) (λ i. refusedStep i s shared)) .outcome)
       (same-number 3 (row 6 (ltb (length shared) (s .total)) ∷ row 8 (not (same (tagOfState s) (s .v))) ∷ []) begun)
-      (alike SameAnswer (eqb (first (finishTable changed shared)) 0) refl (alike SameAnswer (eqb (first (finishTable changed shared)) 8) refl refl))
+      (cond-related SameAnswer (eqb (first (finishTable changed shared)) 0) refl (cond-related SameAnswer (eqb (first (finishTable changed shared)) 8) refl refl))
 
 pub reports-and-adds-up : BlockWork
 reports-and-adds-up =

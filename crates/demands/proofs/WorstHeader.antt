@@ -14,7 +14,7 @@ use Rattle.worst_header.specs.WorstHeader.{isPlan, planRows, IsWorst, GivesWors
 use Rattle.worst_header.proofs.Laws.{Planned, plan-by, no-plan, planned-row, found, blocks-peak}
 use Rattle.whole.specs.Calls.{isKeyLength, sealCall, openCall}
 use Rattle.whole.specs.Work.{workBehind}
-use Rattle.demands.specs.WorstHeader.{AsReported, TwelveDue, WorstRecord}
+use Rattle.demands.specs.WorstHeader.{AsReported, TwelveDue, WorstHeaders}
 use Rattle.demands.specs.Second.{Admits}
 use Rattle.demands.specs.Work.{Reported}
 use Rattle.demands.proofs.First.{answers-or-first-refusal}
@@ -61,8 +61,8 @@ module _ (h k least : ℕ) (places : List ℕ) (blocks : ℕ) (p : Planned h k l
             (given .0 ∙ ap (success _) (omega (arith, d .counted)), given .1);
         opens = λ key bytes input output scratch.
             subst (λ (b : ℕ). Reported (openCall key bytes (take k places) input output scratch) (workBehind b (length input - 16))) (sym (d .counted)) (opened-work key bytes (take k places) input output scratch);
-        sealsNoDearer = λ other o key bytes input output scratch. sealed-most key bytes other input output scratch blocks (d .most other o);
-        opensNoDearer = λ other o key bytes input output scratch. opened-most key bytes other input output scratch blocks (d .most other o);
+        sealsNoMore = λ other o key bytes input output scratch. sealed-most key bytes other input output scratch blocks (d .most other o);
+        opensNoMore = λ other o key bytes input output scratch. opened-most key bytes other input output scratch blocks (d .most other o);
       }
 
 -- 12 is due where a condition of a plan fails, and where none does it is not
@@ -81,7 +81,7 @@ module _ (h k least : ℕ) where
         otherwise = λ some countFits small bounded enough. simp (plan-by h k least (record { some = some; countFits = countFits; small = small; bounded = bounded; enough = enough }));
       }
 
-pub worst-and-reported : WorstRecord
+pub worst-and-reported : WorstHeaders
 unfolding isPlan
 worst-and-reported =
     record {

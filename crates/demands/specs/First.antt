@@ -49,40 +49,40 @@ pub data FirstDue : List Row → ℕ → Type 0 where
 abbrev Leaves : CallResult → Outcome → List ℕ → List ℕ → Type 0
 Leaves result outcome output scratch = (result .outcome ≡ outcome) × (result .output ≡ output) × (result .scratch ≡ scratch)
 
+-- a scratch with what n bytes need of it zero
+abbrev cleared : List ℕ → ℕ → List ℕ
+cleared scratch n = put scratch 0 (replicate (scratchNeed n) 0)
+
 module _ (key bytes lens input output scratch : List ℕ) where
   -- sealing and opening with these six, and their tables
-  abbrev sealing : CallResult
-  sealing = sealCall key bytes lens input output scratch
+  abbrev sealResult : CallResult
+  sealResult = sealCall key bytes lens input output scratch
 
   abbrev sealingTable : List Row
   sealingTable = sealTable key bytes lens input output scratch
 
-  abbrev opening : CallResult
-  opening = openCall key bytes lens input output scratch
+  abbrev openResult : CallResult
+  openResult = openCall key bytes lens input output scratch
 
   abbrev openingTable : List Row
   openingTable = openTable key bytes lens input output scratch
 
-  -- the scratch that n bytes need, zero
-  abbrev pub cleared : ℕ → List ℕ
-  cleared n = put scratch 0 (replicate (scratchNeed n) 0)
-
   pub record FirstSeal : Type 0 where
     pub ordered : keeps order sealingTable ≡ true
-    pub first : FirstDue sealingTable (sealing .outcome .number)
-    pub done : sealing .outcome .number ≡ 0
-        → Leaves sealing (success (length input + 16) (blockWork lens (length input)))
-        (put output 0 (sealed key (strings bytes lens) input)) (cleared (length input))
-    pub refused : (n : ℕ) → sealing .outcome .number ≡ n → (n ≡ 0 → ⊥) → Leaves sealing (refusal n) output scratch
+    pub first : FirstDue sealingTable (sealResult .outcome .number)
+    pub done : sealResult .outcome .number ≡ 0
+        → Leaves sealResult (success (length input + 16) (blockWork lens (length input)))
+        (put output 0 (sealed key (strings bytes lens) input)) (cleared scratch (length input))
+    pub refused : (n : ℕ) → sealResult .outcome .number ≡ n → (n ≡ 0 → ⊥) → Leaves sealResult (refusal n) output scratch
 
   pub record FirstOpen : Type 0 where
     pub ordered : keeps order openingTable ≡ true
-    pub first : FirstDue openingTable (opening .outcome .number)
-    pub done : opening .outcome .number ≡ 0
-        → Leaves opening (success (length input - 16) (blockWork lens (length input - 16))) (put output 0 (opened key input)) (cleared (length input - 16))
-    pub forged : opening .outcome .number ≡ 8
-        → Leaves opening (forged (blockWork lens (length input - 16))) (put output 0 (replicate (length input - 16) 0)) (cleared (length input - 16))
-    pub refused : (n : ℕ) → opening .outcome .number ≡ n → (n ≡ 0 → ⊥) → (n ≡ 8 → ⊥) → Leaves opening (refusal n) output scratch
+    pub first : FirstDue openingTable (openResult .outcome .number)
+    pub done : openResult .outcome .number ≡ 0
+        → Leaves openResult (success (length input - 16) (blockWork lens (length input - 16))) (put output 0 (opened key input)) (cleared scratch (length input - 16))
+    pub forged : openResult .outcome .number ≡ 8
+        → Leaves openResult (forged (blockWork lens (length input - 16))) (put output 0 (replicate (length input - 16) 0)) (cleared scratch (length input - 16))
+    pub refused : (n : ℕ) → openResult .outcome .number ≡ n → (n ≡ 0 → ⊥) → (n ≡ 8 → ⊥) → Leaves openResult (refusal n) output scratch
 
 -- ---- the C interface
 
@@ -114,10 +114,6 @@ module _ (keyLength : ℕ) (ring bytes lens input output scratch : List ℕ) whe
       ++ openRows (length input) (length output) (length scratch)
       ++ (row 8 (noSlot (λ i. genuine (slotKey keyLength ring i) (strings bytes lens) input) (slotCount keyLength (length ring))) ∷ [])
 
-  -- the scratch that the plaintext needs, zero
-  abbrev scratchCleared : List ℕ
-  scratchCleared = put scratch 0 (replicate (scratchNeed (length input - 16)) 0)
-
   -- the work for so many keys: one key's, times their number
   abbrev triedKeys : ℕ → ℕ
   triedKeys n = n * blockWork lens (length input - 16)
@@ -128,9 +124,9 @@ module _ (keyLength : ℕ) (ring bytes lens input output scratch : List ℕ) whe
     pub ordered : keeps order table ≡ true
     pub first : FirstDue table (result .call .outcome .number)
     pub done : result .call .outcome .number ≡ 0
-        → Leaves (result .call) (success (length input - 16) (triedKeys (result .slot + 1))) (put output 0 (opened (slotKey keyLength ring (result .slot)) input)) scratchCleared
+        → Leaves (result .call) (success (length input - 16) (triedKeys (result .slot + 1))) (put output 0 (opened (slotKey keyLength ring (result .slot)) input)) (cleared scratch (length input - 16))
     pub forged : result .call .outcome .number ≡ 8
-        → Leaves (result .call) (forged (triedKeys (slotCount keyLength (length ring)))) (put output 0 (replicate (length input - 16) 0)) scratchCleared
+        → Leaves (result .call) (forged (triedKeys (slotCount keyLength (length ring)))) (put output 0 (replicate (length input - 16) 0)) (cleared scratch (length input - 16))
     pub refused : (n : ℕ) → result .call .outcome .number ≡ n → (n ≡ 0 → ⊥) → (n ≡ 8 → ⊥) → Leaves (result .call) (refusal n) output scratch
     pub slotless : (result .call .outcome .number ≡ 0 → ⊥) → result .slot ≡ 0
 

@@ -26,9 +26,9 @@ pub record AsReported (h k least : ℕ) (places : List ℕ) (blocks : ℕ) : Typ
   -- opening reports as many, for 8 as for success
   pub opens : (key bytes input output scratch : List ℕ) → Reported (openCall key bytes (take k places) input output scratch) (workBehind blocks (length input - 16))
   -- behind any other such list neither sealing nor opening reports more
-  pub sealsNoDearer : (other : List ℕ) → Composes h k least other → (key bytes input output scratch : List ℕ)
+  pub sealsNoMore : (other : List ℕ) → Composes h k least other → (key bytes input output scratch : List ℕ)
       → sealCall key bytes other input output scratch .outcome .work ≤ workBehind blocks (length input)
-  pub opensNoDearer : (other : List ℕ) → Composes h k least other → (key bytes input output scratch : List ℕ)
+  pub opensNoMore : (other : List ℕ) → Composes h k least other → (key bytes input output scratch : List ℕ)
       → openCall key bytes other input output scratch .outcome .work ≤ workBehind blocks (length input - 16)
 
 -- slip 6's conditions for 12, and that there are no others
@@ -41,7 +41,7 @@ pub record TwelveDue (h k least : ℕ) : Type 0 where
   pub otherwise : 1 ≤ k → k ≤ 126 → least ≤ 1 → h ≤ 1048576 → k * least ≤ h → first (planRows h k least) ≡ 0
 
 -- What a gym may rely on: for all figures, and whatever answer the promise allows.
-pub record WorstRecord : Type 0 where
+pub record WorstHeaders : Type 0 where
   pub refusals : (h k least : ℕ) → TwelveDue h k least
   -- where 12 is not due, there is a worst list
   pub found : (h k least : ℕ) → first (planRows h k least) ≡ 0 → (places : List ℕ) × (blocks : ℕ) × IsWorst h k least places blocks

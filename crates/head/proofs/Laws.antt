@@ -31,8 +31,8 @@ use Rattle.head.specs.declared.Made.{Made}
 use Rattle.head.specs.Head.{zeroHead, headOf, headOfWork, extended, extendedWork, fitsHead, restRows, MakeResult, DidMake, madeHead, refusedHead}
 
 -- a sum past a limit, told without the sum
-pub sum-passes : (most total n : ℕ) → total ≤ most → ltb (most - total) n ≡ ltb most (total + n)
-sum-passes most total n h = go (decLt (most - total) n)
+pub sum-exceeds : (most total n : ℕ) → total ≤ most → ltb (most - total) n ≡ ltb most (total + n)
+sum-exceeds most total n h = go (decLt (most - total) n)
   where
     go : Dec (most - total < n) → ltb (most - total) n ≡ ltb most (total + n)
     go (yes k) = lt-ltb (most - total) n k ∙ sym (lt-ltb most (total + n) (omega arith))

@@ -4,22 +4,22 @@ ghost use lib.ListN.{length};
 use aes::RoundKeys;
 
 // The number of eight bytes, the first the lowest.
-fn join(a: u8, b: u8, c: u8, d: u8, e: u8, f: u8, g: u8, h: u8) -> u64 {
+fn number_from_bytes(a: u8, b: u8, c: u8, d: u8, e: u8, f: u8, g: u8, h: u8) -> u64 {
     a as u64
-        + b as u64 * 256
-        + c as u64 * 65536
-        + d as u64 * 16777216
-        + e as u64 * 4294967296
-        + f as u64 * 1099511627776
-        + g as u64 * 281474976710656
-        + h as u64 * 72057594037927936
+        + b as u64 * 0x100
+        + c as u64 * 0x10000
+        + d as u64 * 0x1000000
+        + e as u64 * 0x100000000
+        + f as u64 * 0x10000000000
+        + g as u64 * 0x1000000000000
+        + h as u64 * 0x100000000000000
 }
 
 // The number at a place.
 pub(crate) fn number_at(s: &[u8], at: usize) -> usize
     requires { ⌜ at + 8 ≤ length (now s) ⌝ }
 {
-    let n = join(
+    let n = number_from_bytes(
         s[at],
         s[at + 1],
         s[at + 2],
@@ -38,13 +38,13 @@ pub(crate) fn put_number(s: &mut [u8], at: usize, n: usize)
 {
     let bytes = [
         (n % 256) as u8,
-        (n / 256 % 256) as u8,
-        (n / 65536 % 256) as u8,
-        (n / 16777216 % 256) as u8,
-        (n / 4294967296 % 256) as u8,
-        (n / 1099511627776 % 256) as u8,
-        (n / 281474976710656 % 256) as u8,
-        (n / 72057594037927936 % 256) as u8,
+        (n / 0x100 % 256) as u8,
+        (n / 0x10000 % 256) as u8,
+        (n / 0x1000000 % 256) as u8,
+        (n / 0x100000000 % 256) as u8,
+        (n / 0x10000000000 % 256) as u8,
+        (n / 0x1000000000000 % 256) as u8,
+        (n / 0x100000000000000 % 256) as u8,
     ];
     octets::copy_at(s, at, &bytes);
 }

@@ -36,8 +36,8 @@ fn try_slot(
     )
 }
 
-// Tries the slots of a ring from slot 0 on: ends behind the last, or at the first whose key opens.
-// Its plaintext is then at the front of scratch.
+// Tries the slots of a ring from slot 0 on: ends at the first whose key opens, or behind the last.
+// With a key that opens, its plaintext is at the front of scratch.
 fn try_slots(
     key_len: usize,
     slots: usize,
@@ -58,9 +58,9 @@ fn try_slots(
             break slots;
         }
         let slot = slots - left;
-        let tried = try_slot(&engine, key_len, ring, slot, header, lens, sealed, scratch);
-        work = work + tried.work;
-        if tried.genuine {
+        let verdict = try_slot(&engine, key_len, ring, slot, header, lens, sealed, scratch);
+        work = work + verdict.work;
+        if verdict.genuine {
             break slot;
         }
         left -= 1;

@@ -61,9 +61,9 @@ pub fn open(
         return Report { answer, work: 0 };
     }
     let engine = aes::engine();
-    let tried = admitted::decrypt_and_verify(&engine, key, header, lens, input, scratch);
+    let verdict = admitted::decrypt_and_verify(&engine, key, header, lens, input, scratch);
     Report {
-        answer: admitted::release_or_wipe(tried.genuine, y - TAG_LEN, output, scratch),
-        work: tried.work,
+        answer: admitted::release_or_wipe(verdict.genuine, y - TAG_LEN, output, scratch),
+        work: verdict.work,
     }
 }

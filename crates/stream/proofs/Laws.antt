@@ -20,8 +20,8 @@ use Rattle.s2v.specs.S2v.{tailLength}
 use Rattle.s2v.proofs.Laws.{tail}
 use Rattle.keystream.proofs.Laws.{length-xorPiece}
 use Rattle.answers.specs.declared.Answer.{Answer}
-use Rattle.answers.specs.Answer.{Outcome, Row, first, settle, forgedOr, outcomeOf, refusal}
-use Rattle.answers.proofs.Laws.{IsRefused, due, lacks, outcome-number, outcome-work, not-due, first-append, settle-complete, settle-refused, settle-forged, settle-unread, by-complete, by-refusal, forged-stop, forged-test, rows-not-8}
+use Rattle.answers.specs.Answer.{Outcome, Row, first, settle, Judges, outcomeOf, refusal}
+use Rattle.answers.proofs.Laws.{IsRefused, was-due, lacks, outcome-number, outcome-work, not-due, first-append, settle-complete, settle-refused, by-complete, by-refusal, settle-rows, settle-test}
 use Rattle.tail.specs.declared.Absorbed.{Absorbed}
 use Rattle.tail.specs.Tail.{AfterPiece}
 use Rattle.whole.specs.Calls.{limit}
@@ -31,7 +31,7 @@ use Rattle.head.specs.Head.{MakeResult, DidMake, madeHead, refusedHead}
 use Rattle.stream.specs.declared.Step.{Step}
 use Rattle.stream.specs.declared.Stream.{Stream}
 use Rattle.stream.specs.State.{writtenLimit, keptFits, fits, Absorbs, added, addedWork, ended, start, tagOfState, tagOfStateWork, streamedAt}
-use Rattle.stream.specs.Steps.{StepResult, DidStep, doneStep, refusedStep, forgedStep, beginBy, tagRows, finishStep, addRows, turnRows, writeRows, feedRows, finishRows, finishTable}
+use Rattle.stream.specs.Steps.{StepResult, DidStep, doneStep, refusedStep, forgedStep, beginBy, tagRows, finishStep, addRows, turnRows, writeRows, feedRows, finishRows}
 
 -- ---- what refusal 9 judges
 
@@ -151,28 +151,22 @@ module _ (s : Stream) (output : List ℕ) where
   abbrev complete : StepResult
   complete = doneStep (s .total) (tagOfStateWork s) ended output
 
-  pub finish-refused : (a : Answer) {step : Step} → IsRefused a → outcomeOf a 0 ≡ refusal (first (finishRows s (length output)))
+  abbrev untouched : ℕ → StepResult
+  untouched n = refusedStep n s output
+
+  pub finish-refused : (a : Answer) {step : Step} → IsRefused a → Judges (finishRows s (length output)) a
       → DidStep (record { outcome = outcomeOf a 0; state = s; output = output }) step output → DidStep (finishStep s output) step output
   unfolding finishStep
   finish-refused a {step} k e d =
-      let some : first judged ≡ 0 → ⊥ = due a (first judged) k e in
-      let stops = forged-stop judged test refl refl some in
-      let result = settle-unread _ complete (forgedStep s output) (λ n. refusedStep n s output) (λ z. some (sym stops ∙ z)) (λ z. rows-not-8 judged test refl refl (sym stops ∙ z)) in
-      subst (λ (r : StepResult). DidStep r step output) (ap (λ (o : Outcome). record { outcome = o; state = s; output = output }) (e ∙ ap refusal (sym stops)) ∙ sym result) d
+      subst (λ (r : StepResult). DidStep r step output)
+      (ap (λ (o : Outcome). record { outcome = o; state = s; output = output }) e ∙ sym (settle-rows judged test complete (forgedStep s output) untouched refl (was-due a (first judged) k e))) d
 
-  module _ (none : first (finishRows s (length output)) ≡ 0) where
-    by-tag : (t : Bool) → test ≡ t → first (finishTable s output) ≡ cond (not t) 8 0
-    by-tag t g = forged-test judged test refl refl none ∙ ap (λ (b : Bool). cond (not b) 8 0) g
-
-    pub finish-done : {step : Step} {last : List ℕ} → same (tagOfState s) (s .v) ≡ true → DidStep (doneStep (s .total) (tagOfStateWork s) ended output) step last → DidStep (finishStep s output) step last
-    unfolding finishStep
-    finish-done {step} {last} g d =
-        by-complete _ complete (forgedOr (forgedStep s output) (λ n. refusedStep n s output)) (λ (r : StepResult). DidStep r step last) (by-tag true g) d
-
-    pub finish-forged : {step : Step} {last : List ℕ} → same (tagOfState s) (s .v) ≡ false → DidStep (forgedStep s output) step last → DidStep (finishStep s output) step last
-    unfolding finishStep
-    finish-forged {step} {last} g d =
-        subst (λ (r : StepResult). DidStep r step last) (sym (settle-forged _ complete (forgedStep s output) (λ n. refusedStep n s output) (by-tag false g))) d
+  -- past its refusals finish is by the tag
+  pub finish-told : (t : Bool) → same (tagOfState s) (s .v) ≡ t → first (finishRows s (length output)) ≡ 0
+      → {step : Step} {last : List ℕ} → DidStep (cond t (doneStep (s .total) (tagOfStateWork s) ended output) (forgedStep s output)) step last → DidStep (finishStep s output) step last
+  unfolding finishStep
+  finish-told t e none {step} {last} d =
+      subst (λ (r : StepResult). DidStep r step last) (sym (settle-test judged test complete (forgedStep s output) untouched refl t e none)) d
 
 -- ---- begin
 
@@ -217,12 +211,12 @@ module _ (rows : List Row) (present : lacks 0 rows ≡ true) (w : ℕ) (h : Head
       kept false z = refl
 
   -- any other is refused, with 5 where no row before it is due
-  pub begins-untagged : (before : Answer) {step : Step} → eqb (length tag) 16 ≡ false → outcomeOf before 0 ≡ refusal (first rows)
-      → DidStep (refusedStep (cond (eqb (outcomeOf before 0 .number) 0) 5 (outcomeOf before 0 .number)) ended []) step []
+  pub begins-refused-tag : (before : Answer) {step : Step} → eqb (length tag) 16 ≡ false → Judges rows before
+      → DidStep (refusedStep (settle (outcomeOf before 0 .number) 5 (λ m. m)) ended []) step []
       → DidStep (beginBy (first (rows ++ tagRows (length tag))) w h 3 tag) step []
-  begins-untagged before {step} e o d =
+  begins-refused-tag before {step} e o d =
       let number : outcomeOf before 0 .number ≡ first rows = ap (λ (x : Outcome). x .number) o in
-      let same-number = ap (λ (m : ℕ). cond (eqb m 0) 5 m) number ∙ sym (by-length false e) in
+      let same-number = ap (λ (m : ℕ). settle m 5 (λ i. i)) number ∙ sym (by-length false e) in
       subst (λ (r : StepResult). DidStep r step [])
       (ap (λ (m : ℕ). refusedStep m ended []) same-number
       ∙ sym (settle-refused _ (doneStep 0 w (start h 3 tag) []) (λ m. refusedStep m ended []) (λ z. some (ℕ-discrete (first rows) 0) (sym (by-length false e) ∙ z)))) d

@@ -85,9 +85,10 @@ fits wanted s =
 abbrev pub usedTail : Stream → List ℕ
 usedTail s = take (tailLength (s .total)) (s .tail)
 
--- a state with other values in what calls change; width, round keys, L and D stay as its begin set them
-abbrev pub onward : Stream → ℕ → List ℕ → List ℕ → ℕ → List ℕ → ℕ → ℕ → List ℕ → Stream
-onward s stage v kept written chain total len tail =
+-- a state with other values in what calls change, in the fields' order;
+-- width, round keys, L and D stay as its begin set them
+abbrev pub withProgress : Stream → ℕ → List ℕ → List ℕ → List ℕ → ℕ → ℕ → ℕ → List ℕ → Stream
+withProgress s stage chain v kept total written len tail =
     record {
       stage = stage;
       width = s .width;
@@ -106,15 +107,15 @@ onward s stage v kept written chain total len tail =
 
 -- another chain, total, and tail with its length, and nothing else changed
 abbrev pub stateWith : Stream → List ℕ → ℕ → ℕ → List ℕ → Stream
-stateWith s chain total len tail = onward s (s .stage) (s .v) (s .kept) (s .written) chain total len tail
+stateWith s chain total len tail = withProgress s (s .stage) chain (s .v) (s .kept) total (s .written) len tail
 
 -- another kept block and number of bytes written, and nothing else changed
 abbrev pub streamedWith : Stream → List ℕ → ℕ → Stream
-streamedWith s kept written = onward s (s .stage) (s .v) kept written (s .chain) (s .total) (s .«tail_len») (s .tail)
+streamedWith s kept written = withProgress s (s .stage) (s .chain) (s .v) kept (s .total) written (s .«tail_len») (s .tail)
 
 -- the state once V is known: stage 2 and V, and nothing else changed
 abbrev pub turned : Stream → List ℕ → Stream
-turned s v = onward s 2 v (s .kept) (s .written) (s .chain) (s .total) (s .«tail_len») (s .tail)
+turned s v = withProgress s 2 (s .chain) v (s .kept) (s .total) (s .written) (s .«tail_len») (s .tail)
 
 -- the state with a piece of plaintext more: whole blocks go from the tail into the chain until a tail's length is left
 unfoldable pub added : Stream → List ℕ → Stream

@@ -3,7 +3,7 @@ ghost use mathlib.Core.Path.{_≡_};
 ghost use mathlib.Core.Bool.{cond};
 ghost use mathlib.Core.List.{[]};
 ghost use lib.Dec.{eqb};
-ghost use Rattle.answers.specs.Answer.{outcomeOf};
+ghost use Rattle.answers.specs.Answer.{settle, outcomeOf};
 ghost use Rattle.stream.specs.State.{ended, start};
 ghost use Rattle.stream.specs.Steps.{DidStep, refusedStep, beginBy};
 use crate::Step;
@@ -59,7 +59,7 @@ pub(crate) fn begin_with(made: Made, stage: u8, v: Block) -> Step
 
 // Refuses a tag of another length than 16: with 5, or with the refusal that is due before it.
 pub(crate) fn refuse_tag(before: Answer) -> Step
-    ensures { λ r. ⌜ DidStep (refusedStep (cond (eqb (outcomeOf before 0 .number) 0) 5 (outcomeOf before 0 .number)) ended []) r [] ⌝ }
+    ensures { λ r. ⌜ DidStep (refusedStep (settle (outcomeOf before 0 .number) 5 (λ n. n)) ended []) r [] ⌝ }
 {
     if let Answer::Refused(_) = before {
         return refused(before, ended());

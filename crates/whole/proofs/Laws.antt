@@ -22,8 +22,8 @@ use Rattle.keystream.specs.KeyStream.{xorStream}
 use Rattle.keystream.proofs.Laws.{length-xorStream}
 use Rattle.answers.specs.declared.Answer.{Answer}
 use Rattle.answers.specs.declared.Answer.the-variants.{Ok}
-use Rattle.answers.specs.Answer.{Row, first, forgedOr, outcomeOf, success, refusal, forged}
-use Rattle.answers.proofs.Laws.{IsRefused, due, first-none, none-where, not-due, settle-complete, settle-refused, settle-number, settle-forged, settle-unread, settle-verdict, by-complete, by-refusal, forged-stop, forged-test, rows-not-8, passed-at-0, passed-at-8, unread}
+use Rattle.answers.specs.Answer.{Row, first, forgedOr, Judges, outcomeOf, success, refusal, forged}
+use Rattle.answers.proofs.Laws.{IsRefused, was-due, first-none, none-where, not-due, settle-complete, settle-refused, settle-number, settle-forged, settle-other, settle-verdict, by-complete, by-refusal, by-test, passed-at-0, passed-at-8, unpassed, settle-rows, settle-test}
 use Rattle.whole.specs.declared.Report.{Report}
 use Rattle.whole.specs.Calls.{isKeyLength, limit, scratchNeed, headerRows, sealRows, openRows, openingRows, Usable, CallResult, refusedCall, DidCall, sealNumber, sealedCall, sealCall, openNumber, openedCall, forgedCall, openCall}
 use Rattle.whole.specs.Siv.{tagOf, tagOfWork, streamed, sealed, sealedWork, opened, genuine, genuineWork}
@@ -258,63 +258,67 @@ module _ (key bytes lens input output scratch : List ℕ) where
   abbrev call : CallResult
   call = openCall key bytes lens input output scratch
 
-  number : ℕ
+  abbrev number : ℕ
   number = openNumber key bytes lens input output scratch
 
   -- past the judgement the tag decides
-  pub by-tag : openJudged ≡ 0 → openNumber key bytes lens input output scratch ≡ cond (not (genuine key (strings bytes lens) input)) 8 0
+  pub by-tag : openJudged ≡ 0 → number ≡ cond (not test) 8 0
   unfolding openNumber
-  by-tag judged = forged-test rows test refl refl judged
+  by-tag judged = by-test rows test refl judged
 
   -- 0 and 8 passed the judgement, and any other number did not
-  pub open-passed : openNumber key bytes lens input output scratch ≡ 0 → openJudged ≡ 0
+  pub open-passed : number ≡ 0 → openJudged ≡ 0
   unfolding openNumber
-  open-passed e = passed-at-0 rows test refl refl e
+  open-passed e = passed-at-0 rows test refl e
 
-  pub open-forged : openNumber key bytes lens input output scratch ≡ 8 → openJudged ≡ 0
+  pub open-forged : number ≡ 8 → openJudged ≡ 0
   unfolding openNumber
-  open-forged e = passed-at-8 rows test refl refl e
+  open-forged e = passed-at-8 rows test refl e
 
-  pub open-unread : (openNumber key bytes lens input output scratch ≡ 0 → ⊥) → (openNumber key bytes lens input output scratch ≡ 8 → ⊥) → openJudged ≡ 0 → ⊥
+  pub open-unpassed : (number ≡ 0 → ⊥) → (number ≡ 8 → ⊥) → openJudged ≡ 0 → ⊥
   unfolding openNumber
-  open-unread z e = unread rows test refl refl z e
+  open-unpassed z e = unpassed rows test refl z e
+
+  abbrev complete : CallResult
+  complete = openedCall key bytes lens input output scratch
+
+  abbrev forgery : CallResult
+  forgery = forgedCall key bytes lens input output scratch
+
+  abbrev untouched : ℕ → CallResult
+  untouched n = refusedCall n output scratch
 
   -- the call by its number
-  pub open-numbered : call .outcome .number ≡ openNumber key bytes lens input output scratch
+  pub open-numbered : call .outcome .number ≡ number
   unfolding openCall
-  open-numbered = settle-verdict _ _ _ (λ n. refusedCall n output scratch) (λ (r : CallResult). r .outcome .number) refl refl (λ m. refl)
+  open-numbered = settle-verdict number complete forgery untouched (λ (r : CallResult). r .outcome .number) refl refl (λ m. refl)
 
-  pub open-complete : openNumber key bytes lens input output scratch ≡ 0 → call ≡ openedCall key bytes lens input output scratch
+  pub open-complete : number ≡ 0 → call ≡ complete
   unfolding openCall
-  open-complete e = settle-complete _ _ (forgedOr (forgedCall key bytes lens input output scratch) (λ n. refusedCall n output scratch)) e
+  open-complete e = settle-complete number complete (forgedOr forgery untouched) e
 
-  pub open-forgery : openNumber key bytes lens input output scratch ≡ 8 → call ≡ forgedCall key bytes lens input output scratch
+  pub open-forgery : number ≡ 8 → call ≡ forgery
   unfolding openCall
-  open-forgery e = settle-forged _ _ _ (λ n. refusedCall n output scratch) e
+  open-forgery e = settle-forged number complete forgery untouched e
 
-  pub open-untouched : (openNumber key bytes lens input output scratch ≡ 0 → ⊥) → (openNumber key bytes lens input output scratch ≡ 8 → ⊥)
-      → call ≡ refusedCall (openNumber key bytes lens input output scratch) output scratch
+  pub open-untouched : (number ≡ 0 → ⊥) → (number ≡ 8 → ⊥) → call ≡ untouched number
   unfolding openCall
-  open-untouched z e = settle-unread _ _ _ (λ n. refusedCall n output scratch) z e
+  open-untouched z e = settle-other number complete forgery untouched z e
 
   -- a refusal of the judgement is the call's, with no work
-  pub open-stops : (openJudged ≡ 0 → ⊥) → call ≡ refusedCall openJudged output scratch
-  unfolding openNumber
-  open-stops due =
-      let stops = forged-stop rows test refl refl due in
-      open-untouched (λ z. due (sym stops ∙ z)) (λ z. rows-not-8 rows test refl refl (sym stops ∙ z)) ∙ ap (λ (n : ℕ). refusedCall n output scratch) stops
+  pub open-due : (openJudged ≡ 0 → ⊥) → call ≡ untouched openJudged
+  unfolding openCall openNumber
+  open-due z = settle-rows rows test complete forgery untouched refl z
 
-  pub open-refused : (answer : Answer) → IsRefused answer → outcomeOf answer 0 ≡ refusal openJudged
-      → DidCall (openCall key bytes lens input output scratch) (record { answer = answer; work = 0 }) output scratch
+  pub open-refused : (answer : Answer) → IsRefused answer → Judges rows answer → DidCall call (record { answer = answer; work = 0 }) output scratch
   open-refused answer k e =
-      subst (λ (r : CallResult). DidCall r (record { answer = answer; work = 0 }) output scratch) (sym (open-stops (due answer openJudged k e)))
+      subst (λ (r : CallResult). DidCall r (record { answer = answer; work = 0 }) output scratch) (sym (open-due (was-due answer openJudged k e)))
       (record { outcome = e; output = refl; scratch = refl })
 
   -- past the judgement the string is genuine or forged, and the work is that of telling
-  pub open-told : (g : Bool) → genuine key (strings bytes lens) input ≡ g → openJudged ≡ 0
-      → call ≡ cond g (openedCall key bytes lens input output scratch) (forgedCall key bytes lens input output scratch)
-  open-told true e judged = open-complete (by-tag judged ∙ ap (λ (b : Bool). cond (not b) 8 0) e)
-  open-told false e judged = open-forgery (by-tag judged ∙ ap (λ (b : Bool). cond (not b) 8 0) e)
+  pub open-told : (g : Bool) → test ≡ g → openJudged ≡ 0 → call ≡ cond g complete forgery
+  unfolding openCall openNumber
+  open-told g e judged = settle-test rows test complete forgery untouched refl g e judged
 
   pub open-work : openJudged ≡ 0 → call .outcome .work ≡ genuineWork key (strings bytes lens) input
   open-work judged = go test refl
@@ -329,7 +333,6 @@ module _ (key bytes lens input output scratch : List ℕ) where
 
   -- no length is above the longest plaintext's
   pub open-count : call .outcome .count ≤ limit
-  unfolding number
   open-count = go (ℕ-discrete number 0) (ℕ-discrete number 8)
     where
       at : {r : CallResult} → call ≡ r → r .outcome .count ≤ limit → call .outcome .count ≤ limit
@@ -341,12 +344,12 @@ module _ (key bytes lens input output scratch : List ℕ) where
       go (no z) (no e) = at (open-untouched z e) (omega arith)
 
   -- past the judgement what was read of a genuine string, or zeros, are in the output
-  pub open-delivered : (g : Bool) → genuine key (strings bytes lens) input ≡ g → openJudged ≡ 0 → (report : Report) (read output′ scratch′ : List ℕ)
+  pub open-released : (g : Bool) → genuine key (strings bytes lens) input ≡ g → openJudged ≡ 0 → (report : Report) (read output′ scratch′ : List ℕ)
       → ((w : ℕ) → outcomeOf (report .answer) w ≡ cond g (success (length input - 16) w) (forged w)) → report .work ≡ genuineWork key (strings bytes lens) input → (g ≡ true → read ≡ opened key input)
       → output′ ≡ put output 0 (cond g read (replicate (length input - 16) 0)) → scratch′ ≡ put scratch 0 (replicate (scratchNeed (length input - 16)) 0)
       → DidCall (openCall key bytes lens input output scratch) report output′ scratch′
-  open-delivered true e judged report read output′ scratch′ o w t p q =
+  open-released true e judged report read output′ scratch′ o w t p q =
       subst (λ (r : CallResult). DidCall r report output′ scratch′) (sym (open-told true e judged))
       (record { outcome = o _ ∙ ap (success (length input - 16)) w; output = p ∙ ap (put output 0) (t refl); scratch = q })
-  open-delivered false e judged report read output′ scratch′ o w t p q =
+  open-released false e judged report read output′ scratch′ o w t p q =
       subst (λ (r : CallResult). DidCall r report output′ scratch′) (sym (open-told false e judged)) (record { outcome = o _ ∙ ap forged w; output = p; scratch = q })

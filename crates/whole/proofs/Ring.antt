@@ -15,7 +15,7 @@ use Rattle.octets.proofs.Strings.{part-to}
 use Rattle.header.specs.Header.{strings}
 use Rattle.answers.specs.declared.Answer.{Answer}
 use Rattle.answers.specs.Answer.{Outcome, Row, first, settle, outcomeOf, success, refusal, forged}
-use Rattle.answers.proofs.Laws.{IsRefused, due, first-none, first-pass, first-stop, settle-complete, settle-refused, outcome-with}
+use Rattle.answers.proofs.Laws.{IsRefused, was-due, first-none, first-pass, first-stop, settle-complete, settle-refused, outcome-with}
 use Rattle.whole.specs.declared.Found.{Found}
 use Rattle.whole.specs.declared.RingAnswer.{RingAnswer}
 use Rattle.whole.specs.Calls.{isKeyLength, limit, scratchNeed, headerRows, openRows, CallResult}
@@ -23,7 +23,7 @@ use Rattle.whole.specs.Ring.{isRing, slotCount, slotKey, trySlots, tried
 use Rattle.whole.specs.Siv.{opened, genuine, genuineWork}
 use Rattle.whole.specs.Work.{blockWork}
 use Rattle.whole.proofs.Lengths.{genuine-lengths}
-use Rattle.whole.proofs.Laws.{openJudged, open-admits, open-stops, open-count, open-number, open-work, open-refused, open-delivered, length-opened, text-read, scratch-wiped}
+use Rattle.whole.proofs.Laws.{openJudged, open-admits, open-due, open-count, open-number, open-work, open-refused, open-released, length-opened, text-read, scratch-wiped}
 
 -- ---- lengths
 
@@ -321,7 +321,7 @@ module _ (keyLength : ℕ) (ring bytes lens input output scratch : List ℕ) whe
       → (openJudged (slotKey keyLength ring s) bytes lens input output scratch ≡ 0 → ⊥) → ringWork ≡ 0
   ring-idle z s h due =
       let each : (j : ℕ) → j < 0 + count → works j ≡ 0 = λ j k.
-      ap (λ (r : CallResult). r .outcome .work) (open-stops (slotKey keyLength ring j) bytes lens input output scratch (λ y. due (slot-judged z s h ∙ sym (slot-judged z j (omega arith)) ∙ y))) in
+      ap (λ (r : CallResult). r .outcome .work) (open-due (slotKey keyLength ring j) bytes lens input output scratch (λ y. due (slot-judged z s h ∙ sym (slot-judged z j (omega arith)) ∙ y))) in
       omega (arith, try-work opens works 0 0 0 count each, mul-zero (trySlots opens works 0 0 count .slot + cond (ltb (trySlots opens works 0 0 count .slot) (0 + count)) 1 0))
 
   -- past it the work is one key's, times the keys tried
@@ -350,18 +350,18 @@ module _ (keyLength : ℕ) (ring bytes lens input output scratch : List ℕ) whe
       go (tries {s} z g) =
           let within = chosen-within opens count (ring-admits keyLength (length ring) z .1 .some) g in
           let judged = first-pass (ringRows keyLength (length ring)) restRows refl z ∙ sym (slot-judged z s within) in
-          let due-one : openJudged (slotKey keyLength ring s) bytes lens input output scratch ≡ 0 → ⊥ = λ y. due answer ringJudged k e (judged ∙ y) in
+          let due-one : openJudged (slotKey keyLength ring s) bytes lens input output scratch ≡ 0 → ⊥ = λ y. was-due answer ringJudged k e (judged ∙ y) in
           let refused = open-refused (slotKey keyLength ring s) bytes lens input output scratch answer k (e ∙ ap refusal judged) in
           let closed : opens s ≡ false = ne-eqb (openSlot keyLength ring bytes lens input output scratch s .outcome .number) 0
-          (λ y. due-one (sym (ap (λ (r : CallResult). r .outcome .number) (open-stops (slotKey keyLength ring s) bytes lens input output scratch due-one)) ∙ y)) in
+          (λ y. due-one (sym (ap (λ (r : CallResult). r .outcome .number) (open-due (slotKey keyLength ring s) bytes lens input output scratch due-one)) ∙ y)) in
           record {
             slot = sym (chosen-closed opens count g closed);
             call = record { outcome = outcome-with answer 0 0 (refused .outcome) (sym (ring-idle z s within due-one)); output = refused .output; scratch = refused .scratch };
           }
 
-  -- what the search and the delivery after it come to:
+  -- what the search and the release after it come to:
   -- end is where the search ended, and used what it left in the scratch
-  pub ring-delivered : ringJudged ≡ 0 → (end : Found)
+  pub ring-released : ringJudged ≡ 0 → (end : Found)
       → end ≡ trySlots (λ i. genuine (slotKey keyLength ring i) (strings bytes lens) input) (λ i. genuineWork (slotKey keyLength ring i) (strings bytes lens) input) 0 0 count
       → (given : RingAnswer) (used output′ scratch′ : List ℕ) → given .slot ≡ givenSlot end count → given .work ≡ end .work
       → (end .slot < count → used ≡ put scratch 0 (opened (slotKey keyLength ring (end .slot)) input))
@@ -370,7 +370,7 @@ module _ (keyLength : ℕ) (ring bytes lens input output scratch : List ℕ) whe
       → drop (length input - 16) used ≡ drop (length input - 16) scratch → scratch′ ≡ put used 0 (replicate (scratchNeed (length input - 16)) 0)
       → DidRing (openRing keyLength ring bytes lens input output scratch) given output′ scratch′
   unfolding openRing
-  ring-delivered judged end search given used output′ scratch′ at sum text o p rest wiped =
+  ring-released judged end search given used output′ scratch′ at sum text o p rest wiped =
       subst (λ (r : RingResult). DidRing r given output′ scratch′) (sym result) (go (ltb (end .slot) count) refl at o p)
     where
       test : ℕ → Bool
@@ -398,7 +398,7 @@ module _ (keyLength : ℕ) (ring bytes lens input output scratch : List ℕ) whe
           → DidRing (record { slot = s; call = openSlotWith keyLength ring bytes lens input output scratch s (end .work) }) given output′ scratch′
       by s g e h t read o p =
           let w = genuineWork (slotKey keyLength ring s) (strings bytes lens) input in
-          let one = open-delivered (slotKey keyLength ring s) bytes lens input output scratch g t (slot-passed judged s h) (record { answer = given .answer; work = w }) (take (length input - 16) used) output′ scratch′ o refl read p
+          let one = open-released (slotKey keyLength ring s) bytes lens input output scratch g t (slot-passed judged s h) (record { answer = given .answer; work = w }) (take (length input - 16) used) output′ scratch′ o refl read p
           (scratch-wiped scratch used (length input - 16) rest wiped) in
           record { slot = e; call = record { outcome = outcome-with (given .answer) w (given .work) (one .outcome) sum; output = one .output; scratch = one .scratch } }
 

@@ -26,6 +26,10 @@ limit = 1048576
 abbrev pub scratchNeed : ℕ → ℕ
 scratchNeed n = max n 16
 
+-- a scratch with that many bytes of it zero
+abbrev pub wiped : List ℕ → ℕ → List ℕ
+wiped scratch n = put scratch 0 (replicate (scratchNeed n) 0)
+
 -- the refusals that judge key and header list
 abbrev pub headerRows : ℕ → List ℕ → ℕ → List Row
 headerRows keyLength lens headerLength =
@@ -65,10 +69,6 @@ pub record DidCall (result : CallResult) (report : Report) (lastOutput lastScrat
   pub scratch : lastScratch ≡ result .scratch
 
 module _ (key bytes lens input output scratch : List ℕ) where
-  -- the scratch that n bytes need, wiped
-  abbrev wiped : ℕ → List ℕ
-  wiped n = put scratch 0 (replicate (scratchNeed n) 0)
-
   -- sealing's refusals, and the number that it returns
   abbrev pub sealTable : List Row
   sealTable = headerRows (length key) lens (length bytes) ++ sealRows (length input) (length output) (length scratch)
@@ -82,7 +82,7 @@ module _ (key bytes lens input output scratch : List ℕ) where
       record {
         outcome = success (length input + 16) (sealedWork key (strings bytes lens) input);
         output = put output 0 (sealed key (strings bytes lens) input);
-        scratch = wiped (length input);
+        scratch = wiped scratch (length input);
       }
 
   unfoldable pub sealCall : CallResult
@@ -91,7 +91,7 @@ module _ (key bytes lens input output scratch : List ℕ) where
   -- opening's refusals, and the number that it returns
   abbrev pub openTable : List Row
   openTable =
-      headerRows (length key) lens (length bytes) ++ openRows (length input) (length output) (length scratch)
+      openingRows (length key) lens (length bytes) (length input) (length output) (length scratch)
       ++ (row 8 (not (genuine key (strings bytes lens) input)) ∷ [])
 
   unfoldable pub openNumber : ℕ
@@ -101,12 +101,12 @@ module _ (key bytes lens input output scratch : List ℕ) where
   abbrev pub openedCall : CallResult
   openedCall =
       let n = length input - 16 in
-      record { outcome = success n (genuineWork key (strings bytes lens) input); output = put output 0 (opened key input); scratch = wiped n }
+      record { outcome = success n (genuineWork key (strings bytes lens) input); output = put output 0 (opened key input); scratch = wiped scratch n }
 
   abbrev pub forgedCall : CallResult
   forgedCall =
       let n = length input - 16 in
-      record { outcome = forged (genuineWork key (strings bytes lens) input); output = put output 0 (replicate n 0); scratch = wiped n }
+      record { outcome = forged (genuineWork key (strings bytes lens) input); output = put output 0 (replicate n 0); scratch = wiped scratch n }
 
   unfoldable pub openCall : CallResult
   openCall = settle openNumber openedCall (forgedOr forgedCall (λ n. refusedCall n output scratch))

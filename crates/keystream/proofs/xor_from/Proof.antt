@@ -31,7 +31,11 @@ returns c =
     let E = cipher (args .width) (args .keys .now) in
     let whole = wrote .xor-blocks .ensures in
     record {
-      kept = record { block = begunBlock-whole E (args .v) (args .i) (length src) (omega (arith, none)) ∙ sym (keptAfter-fresh E (length-cipher _ _) (args .v) (args .i) (length src)); work = omega (arith, none, whole .0 ∙ stream-work (length src / 16), pieceWork-fresh (args .i) (length src) ∙ key-stream-work (length src)) };
+      kept =
+          record {
+            block = begunBlock-whole E (args .v) (args .i) (length src) (omega (arith, none)) ∙ sym (keptAfter-fresh E (length-cipher _ _) (args .v) (args .i) (length src));
+            work = omega (arith, none, whole .0 ∙ stream-work (length src / 16), pieceWork-fresh (args .i) (length src) ∙ key-stream-work (length src));
+          };
       text = xorStream-all _ _ _ _ _ src (16 * (length src / 16)) (omega (arith, none)) (whole .1) ∙ ap (put (args .dst .now) (args .at)) (sym (xorPiece-fresh E (length-cipher _ _) (args .v) (args .i) src));
     }
 
@@ -80,7 +84,11 @@ returns-2 c =
     let end = called .xor-with-block .ensures in
     let text = xorStream-joined E (length-cipher _ _) _ _ _ (16 * args .i) src (16 * (length src / 16)) (omega arith) (omega arith) (omega arith) (whole .1) (end .1) in
     record {
-      kept = record { block = begunBlock-short E (args .v) (args .i) (length src) (λ z. some (omega (arith, z))) (end .0 .block) ∙ sym (keptAfter-fresh E (length-cipher _ _) (args .v) (args .i) (length src)); work = omega (arith, some, end .0 .work, whole .0 ∙ stream-work (length src / 16), pieceWork-fresh (args .i) (length src) ∙ key-stream-work (length src)) };
+      kept =
+          record {
+            block = begunBlock-short E (args .v) (args .i) (length src) (λ z. some (omega (arith, z))) (end .0 .block) ∙ sym (keptAfter-fresh E (length-cipher _ _) (args .v) (args .i) (length src));
+            work = omega (arith, some, end .0 .work, whole .0 ∙ stream-work (length src / 16), pieceWork-fresh (args .i) (length src) ∙ key-stream-work (length src));
+          };
       text = text ∙ ap (put (args .dst .now) (args .at)) (sym (xorPiece-fresh E (length-cipher _ _) (args .v) (args .i) src));
     }
 

@@ -6,7 +6,7 @@ use lib.Dec.{eqb}
 use borrow.Author.Needs.{needs}
 use borrow.Author.Tests.{eq-eqb, ne-eqb}
 use Rattle.answers.specs.Answer.{first}
-use Rattle.answers.proofs.Laws.{due, passed}
+use Rattle.answers.proofs.Laws.{was-due, passed}
 use Rattle.whole.specs.Ring.{ringRows}
 use Rattle.kinphlor.specs.Interface.{emptyNonceRing}
 use Rattle.kinphlor.proofs.empty_nonce_ring.Statement.{statement}
@@ -22,7 +22,7 @@ returns : tie.Need-returns
 unfolding emptyNonceRing
 returns c =
     let args = c .before .before .before .args in
-    let some = ne-eqb (first (ringRows (args .key-len) (args .ring-len))) 0 (due (c .before .before .judge-ring .result) _ (c .before .match .keys1) (c .before .before .judge-ring .ensures)) in
+    let some = ne-eqb (first (ringRows (args .key-len) (args .ring-len))) 0 (was-due (c .before .before .judge-ring .result) _ (c .before .match .keys1) (c .before .before .judge-ring .ensures)) in
     sym (ap (λ (t : Bool). t && eqb (args .nonce-len) 0) some)
 
 enum-told-2 : tie.Need-enum-told-2

@@ -12,7 +12,7 @@ use Rattle.answers.proofs.Laws.{passed}
 use Rattle.whole.specs.Calls.{isKeyLength}
 use Rattle.whole.specs.Ring.{slotCount, slotKey}
 use Rattle.whole.proofs.Laws.{OpenAdmits, open-admits}
-use Rattle.whole.proofs.Ring.{key-length-some, RingWhole, ring-admits, ringJudged, ring-judged, slot-passed, ring-refused, ring-delivered}
+use Rattle.whole.proofs.Ring.{key-length-some, RingWhole, ring-admits, ringJudged, ring-judged, slot-passed, ring-refused, ring-released}
 use Rattle.ring.proofs.open_ring.Statement.{statement}
 use Rattle.ring.proofs.open_ring.Tie as tie
 
@@ -95,7 +95,7 @@ returns-2 c =
     let searched = given .before .before .before in
     let tried = searched .try-slots .ensures in
     let ended = done .release-or-wipe .ensures in
-    ring-delivered _ _ _ _ _ _ _ (judged (searched .before .before .before)) _ (tried .found) _ _ _ _ (given .given-slot .ensures) refl (tried .text) (told done) (ended .1 .0) (tried .rest) (ended .1 .1)
+    ring-released _ _ _ _ _ _ _ (judged (searched .before .before .before)) _ (tried .found) _ _ _ _ (given .given-slot .ensures) refl (tried .text) (told done) (ended .1 .0) (tried .rest) (ended .1 .1)
 
 pub open-ring-spec : {M : Type 1} → statement M
 open-ring-spec =

@@ -7,7 +7,7 @@ use lib.ListN.{length}
 use borrow.Author.Needs.{needs}
 use Rattle.answers.proofs.Laws.{passed}
 use Rattle.whole.specs.Siv.{opened}
-use Rattle.whole.proofs.Laws.{openJudged, OpenAdmits, open-admits, open-refused, open-delivered, length-opened, put-rest, text-read, scratch-wiped}
+use Rattle.whole.proofs.Laws.{openJudged, OpenAdmits, open-admits, open-refused, open-released, length-opened, put-rest, text-read, scratch-wiped}
 use Rattle.siv.proofs.open.Statement.{statement}
 use Rattle.siv.proofs.open.Tie as tie
 
@@ -68,7 +68,7 @@ returns-2 c =
     let long : length text ≡ length y - 16 = length-opened key y in
     let used = opening .decrypt-and-verify .last .1 .1 .1 .1 .1 .0 in
     let tried = opening .decrypt-and-verify .ensures in
-    open-delivered _ _ _ _ _ _ (opening .decrypt-and-verify .result .genuine) (sym (tried .judged)) (judged matched) _ _ _ _ (done .release-or-wipe .ensures .0) (tried .work)
+    open-released _ _ _ _ _ _ (opening .decrypt-and-verify .result .genuine) (sym (tried .judged)) (judged matched) _ _ _ _ (done .release-or-wipe .ensures .0) (tried .work)
     (λ _. text-read text (args .scratch .now) (tried .text) (sym long) (omega (arith, long, admits matched .scratchFits))) (done .release-or-wipe .ensures .1 .0)
     (scratch-wiped (args .scratch .now) used (length y - 16) (put-rest (args .scratch .now) text (tried .text) (sym long)) (done .release-or-wipe .ensures .1 .1))
 

@@ -9,7 +9,7 @@ use lib.ListN.{length}
 use borrow.Author.Needs.{needs}
 use borrow.Author.Tests.{lt-ltb, le-ltb, not-false}
 use Rattle.head.specs.Head.{fitsHead}
-use Rattle.head.proofs.Laws.{sum-passes, fit}
+use Rattle.head.proofs.Laws.{sum-exceeds, fit}
 use Rattle.head.proofs.judge.judge_rest.Statement.{statement}
 use Rattle.head.proofs.judge.judge_rest.Tie as tie
 
@@ -34,14 +34,14 @@ returns-2 : tie.Need-returns-2
 returns-2 c =
     let args = c .before .before .before .before .before .args in
     let many : ltb (126 - args .head .count) (length (args .lens .now)) ≡ true = lt-ltb _ _ (c .if2 .taken) in
-    simp (fitting (c .before), sym (sum-passes _ _ _ (count-fits (c .before))) ∙ many)
+    simp (fitting (c .before), sym (sum-exceeds _ _ _ (count-fits (c .before))) ∙ many)
 
 -- past 2 they are few together
 within : (c : tie.Else2) → let args = c .before .before .before .before .before .args in ltb 126 (args .head .count + length (args .lens .now)) ≡ false
 within c =
     let args = c .before .before .before .before .before .args in
     let fits-too : ltb (126 - args .head .count) (length (args .lens .now)) ≡ false = le-ltb _ _ (c .if2 .left) in
-    sym (sum-passes _ _ _ (count-fits (c .before))) ∙ fits-too
+    sym (sum-exceeds _ _ _ (count-fits (c .before))) ∙ fits-too
 
 sums-to-requires : tie.Need-sums-to-requires
 sums-to-requires c κs = search needs

@@ -9,7 +9,7 @@ use Rattle.header.specs.Header.{strings}
 use Rattle.whole.specs.Calls.{headerRows}
 use Rattle.head.specs.Head.{headOf, headOfWork, makeHead}
 use Rattle.stream.specs.Steps.{beginOpener}
-use Rattle.stream.proofs.Laws.{begins-tagged, begins-untagged}
+use Rattle.stream.proofs.Laws.{begins-tagged, begins-refused-tag}
 use Rattle.stream.proofs.Stream.begin_opener.Statement.{statement}
 use Rattle.stream.proofs.Stream.begin_opener.Tie as tie
 
@@ -26,7 +26,10 @@ returns : tie.Need-returns
 unfolding beginOpener
 returns c =
     let args = c .before .before .before .before .before .before .before .before .args in
-    begins-untagged (headerRows (length (args .key .now)) (args .lens .now) (length (args .header .now))) refl (headOfWork (strings (args .header .now) (args .lens .now))) (headOf (args .key .now) (strings (args .header .now) (args .lens .now))) (args .tag .now) (c .before .judge-header .result) (sym (c .before .before .before .is-tag .ensures) ∙ not-true _ (c .before .before .if1 .taken)) (c .before .judge-header .ensures) (c .refuse-tag .ensures)
+    let rows = headerRows (length (args .key .now)) (args .lens .now) (length (args .header .now)) in
+    let ss = strings (args .header .now) (args .lens .now) in
+    begins-refused-tag rows refl (headOfWork ss) (headOf (args .key .now) ss) (args .tag .now) (c .before .judge-header .result)
+    (sym (c .before .before .before .is-tag .ensures) ∙ not-true _ (c .before .before .if1 .taken)) (c .before .judge-header .ensures) (c .refuse-tag .ensures)
 
 tagged : (c : tie.Else1) → length (c .before .before .before .before .before .before .args .tag .now) ≡ 16
 tagged c = eqb-true _ 16 (sym (c .before .is-tag .ensures) ∙ not-false _ (c .if1 .left))
@@ -44,7 +47,10 @@ returns-2 : tie.Need-returns-2
 unfolding beginOpener makeHead
 returns-2 c =
     let args = c .before .before .before .before .before .before .before .before .before .args in
-    begins-tagged (headerRows (length (args .key .now)) (args .lens .now) (length (args .header .now))) refl (headOfWork (strings (args .header .now) (args .lens .now))) (headOf (args .key .now) (strings (args .header .now) (args .lens .now))) (args .tag .now) (c .before .before .make .result) (c .before .load .result) (tagged (c .before .before .before)) (c .before .load .ensures) (c .before .before .make .ensures) (c .begin-with .ensures)
+    let rows = headerRows (length (args .key .now)) (args .lens .now) (length (args .header .now)) in
+    let ss = strings (args .header .now) (args .lens .now) in
+    begins-tagged rows refl (headOfWork ss) (headOf (args .key .now) ss) (args .tag .now) (c .before .before .make .result) (c .before .load .result) (tagged (c .before .before .before))
+    (c .before .load .ensures) (c .before .before .make .ensures) (c .begin-with .ensures)
 
 pub begin-opener-spec : {M : Type 1} → statement M
 begin-opener-spec =

@@ -21,7 +21,9 @@ returns : tie.Need-returns
 unfolding beginSealer makeHead
 returns c =
     let args = c .before .before .before .before .before .args in
-    begins (first (headerRows (length (args .key .now)) (args .lens .now) (length (args .header .now)))) (headOfWork (strings (args .header .now) (args .lens .now))) (headOf (args .key .now) (strings (args .header .now) (args .lens .now))) (c .before .make .result) _ _ (c .before .make .ensures) (c .begin-with .ensures)
+    let rows = headerRows (length (args .key .now)) (args .lens .now) (length (args .header .now)) in
+    let ss = strings (args .header .now) (args .lens .now) in
+    begins (first rows) (headOfWork ss) (headOf (args .key .now) ss) (c .before .make .result) _ _ (c .before .make .ensures) (c .begin-with .ensures)
 
 pub begin-sealer-spec : {M : Type 1} → statement M
 begin-sealer-spec = tie.close (tie.spec make-requires begin-with-requires returns)

@@ -20,7 +20,9 @@ returns : tie.Need-returns
 unfolding beginSealerFrom extendHead
 returns c =
     let args = c .before .before .before .before .args in
-    begins (first (restRows (args .head) (args .lens .now) (length (args .rest .now)))) (extendedWork (strings (args .rest .now) (args .lens .now))) (extended (args .head) (strings (args .rest .now) (args .lens .now))) (c .before .extend .result) _ _ (c .before .extend .ensures) (c .begin-with .ensures)
+    let rows = restRows (args .head) (args .lens .now) (length (args .rest .now)) in
+    let ss = strings (args .rest .now) (args .lens .now) in
+    begins (first rows) (extendedWork ss) (extended (args .head) ss) (c .before .extend .result) _ _ (c .before .extend .ensures) (c .begin-with .ensures)
 
 pub begin-sealer-from-spec : {M : Type 1} → statement M
 begin-sealer-from-spec = tie.close (tie.spec extend-requires begin-with-requires returns)

@@ -1,6 +1,7 @@
 -- `stream::Stream::finish` meets its contract.
 -- Assumes nothing.
 use mathlib.Core.Path.{_≡_, refl, ap, sym, _∙_}
+use mathlib.Core.Bool.{true, false}
 use mathlib.Core.List.{List}
 use Prim.Native.Nat.{ℕ}
 use native.Mathlib.Omega.{arith}
@@ -11,7 +12,7 @@ use Rattle.answers.specs.Answer.{success, forged, first, Judges}
 use Rattle.answers.proofs.Laws.{passed}
 use Rattle.stream.specs.State.{tagOfState}
 use Rattle.stream.specs.Steps.{finishRows}
-use Rattle.stream.proofs.Laws.{judged-by, finish-admits, finish-refused, finish-done, finish-forged}
+use Rattle.stream.proofs.Laws.{judged-by, finish-admits, finish-refused, finish-told}
 use Rattle.stream.proofs.Stream.finish.Statement.{statement}
 use Rattle.stream.proofs.Stream.finish.Tie as tie
 
@@ -63,7 +64,7 @@ agrees c =
 returns-2 : tie.Need-returns-2
 returns-2 c =
     let told = c .before .before in
-    finish-done _ _ (none (told .before .before .before .before .before)) (agrees told ∙ c .before .if1 .taken)
+    finish-told _ _ true (agrees told ∙ c .before .if1 .taken) (none (told .before .before .before .before .before))
     (record { outcome = ap (success _) (told .before .before .tag-of-state .ensures .work); state = c .ended .ensures; output = refl })
 
 zero-at-requires : tie.Need-zero-at-requires
@@ -79,7 +80,7 @@ same-length c = search needs
 returns-3 : tie.Need-returns-3
 returns-3 c =
     let told = c .before .before .before .before .before .before in
-    finish-forged _ _ (none (told .before .before .before .before .before)) (agrees told ∙ c .before .before .before .before .before .if1 .left)
+    finish-told _ _ false (agrees told ∙ c .before .before .before .before .before .if1 .left) (none (told .before .before .before .before .before))
     (record { outcome = ap forged (told .before .before .tag-of-state .ensures .work); state = c .ended2 .ensures; output = c .before .before .before .zero-at .ensures })
 
 pub finish-spec : {M : Type 1} → statement M
