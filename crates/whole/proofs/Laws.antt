@@ -133,18 +133,18 @@ module _ (key bytes lens input output scratch : List ℕ) where
       }
 
   -- the call by its number
-  pub seal-numbered : sealCall key bytes lens input output scratch .outcome .number ≡ sealNumber key bytes lens input output scratch
+  pub seal-untouched : (sealNumber key bytes lens input output scratch ≡ 0 → ⊥)
+      → sealCall key bytes lens input output scratch ≡ refusedCall (sealNumber key bytes lens input output scratch) output scratch
   unfolding sealCall
-  seal-numbered = settle-number _ _ (λ n. refusedCall n output scratch) (λ (r : CallResult). r .outcome .number) refl (λ m. refl)
+  seal-untouched z = settle-refused _ _ (λ n. refusedCall n output scratch) z
 
   pub seal-complete : sealNumber key bytes lens input output scratch ≡ 0 → sealCall key bytes lens input output scratch ≡ sealedCall key bytes lens input output scratch
   unfolding sealCall
   seal-complete e = settle-complete _ _ (λ n. refusedCall n output scratch) e
 
-  pub seal-untouched : (sealNumber key bytes lens input output scratch ≡ 0 → ⊥)
-      → sealCall key bytes lens input output scratch ≡ refusedCall (sealNumber key bytes lens input output scratch) output scratch
+  pub seal-numbered : sealCall key bytes lens input output scratch .outcome .number ≡ sealNumber key bytes lens input output scratch
   unfolding sealCall
-  seal-untouched z = settle-refused _ _ (λ n. refusedCall n output scratch) z
+  seal-numbered = settle-number _ _ (λ n. refusedCall n output scratch) (λ (r : CallResult). r .outcome .number) refl (λ m. refl)
 
   -- no length is above the longest sealed string's
   pub seal-count : sealCall key bytes lens input output scratch .outcome .count ≤ limit + 16
@@ -289,9 +289,9 @@ module _ (key bytes lens input output scratch : List ℕ) where
   untouched n = refusedCall n output scratch
 
   -- the call by its number
-  pub open-numbered : call .outcome .number ≡ number
+  pub open-untouched : (number ≡ 0 → ⊥) → (number ≡ 8 → ⊥) → call ≡ untouched number
   unfolding openCall
-  open-numbered = settle-verdict number complete forgery untouched (λ (r : CallResult). r .outcome .number) refl refl (λ m. refl)
+  open-untouched z e = settle-other number complete forgery untouched z e
 
   pub open-complete : number ≡ 0 → call ≡ complete
   unfolding openCall
@@ -301,9 +301,9 @@ module _ (key bytes lens input output scratch : List ℕ) where
   unfolding openCall
   open-forgery e = settle-forged number complete forgery untouched e
 
-  pub open-untouched : (number ≡ 0 → ⊥) → (number ≡ 8 → ⊥) → call ≡ untouched number
+  pub open-numbered : call .outcome .number ≡ number
   unfolding openCall
-  open-untouched z e = settle-other number complete forgery untouched z e
+  open-numbered = settle-verdict number complete forgery untouched (λ (r : CallResult). r .outcome .number) refl refl (λ m. refl)
 
   -- a refusal of the judgement is the call's, with no work
   pub open-due : (openJudged ≡ 0 → ⊥) → call ≡ untouched openJudged
