@@ -1,8 +1,6 @@
 // The begins' common end: the state that a head starts, or a refusal with the ended state.
 ghost use mathlib.Core.Path.{_≡_};
-ghost use mathlib.Core.Bool.{cond};
 ghost use mathlib.Core.List.{[]};
-ghost use lib.Dec.{eqb};
 ghost use Rattle.answers.specs.Answer.{settle, outcomeOf};
 ghost use Rattle.stream.specs.State.{ended, start};
 ghost use Rattle.stream.specs.Steps.{DidStep, refusedStep, beginBy};
