@@ -1,4 +1,4 @@
--- Laws of the order of refusals, and of which case an answer is.
+-- Laws of the order of refusals, of which case an answer is, and of `settle`.
 -- Assumes nothing.
 use mathlib.Core.Path.{_≡_, refl, ap, ap₂, sym, subst, _∙_}
 use mathlib.Core.Bool.{Bool, true, false, not, false≢true, cond, _&&_, and-eq-true-iff}

@@ -1,5 +1,5 @@
 -- A list divided into a head and the rest gives what the undivided list gives:
--- both are judged cond-related, and D goes on where the head left it.
+-- both are judged alike, and D goes on where the head left it.
 -- Assumes nothing.
 use mathlib.Core.Path.{_≡_, refl, ap, ap₂, sym, subst, _∙_}
 use mathlib.Core.Bool.{Bool, false, not, cond}

@@ -64,7 +64,7 @@ module _ (s : Stream) (n count work : ℕ) (a b : Stream) (like : SameButTailLen
       cond-related SameStep (eqb number 0) (record { outcome = refl; state = like; output = refl })
       (cond-related SameStep (eqb number 8) (record { outcome = refl; state = refl; output = refl }) (record { outcome = refl; state = refl; output = refl }))
 
--- the number is one where 9 is judged cond-related and the rows behind it are the same
+-- the number is one where 9 is judged alike and the rows behind it are the same
 by-nine : {x y : ℕ → StepResult} → ((number : ℕ) → SameStep (x number) (y number)) → (f g : Bool) (rest : ℕ) → f ≡ g
     → SameStep (x (cond (not f) 9 rest)) (y (cond (not g) 9 rest))
 by-nine {x} {y} cond-related f g rest e = subst (λ (t : Bool). SameStep (x (cond (not f) 9 rest)) (y (cond (not t) 9 rest))) e (cond-related (cond (not f) 9 rest))

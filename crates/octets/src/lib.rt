@@ -5,7 +5,7 @@ ghost use mathlib.Core.Bool.{_&&_, _||_};
 ghost use Prim.Native.Nat.{_+_, _≤_};
 ghost use lib.Dec.{eqb, ltb};
 ghost use lib.ListN.{length, drop, replicate};
-ghost use Rattle.octets.specs.Octets.{xors, put, part, same, allZero};
+ghost use Rattle.octets.specs.Octets.{xors, part, same, allZero, Writes};
 
 // A block: 16 bytes, byte 0 first.
 pub type Block = [u8; 16];
@@ -13,7 +13,7 @@ pub type Block = [u8; 16];
 // Copies all of src to place at of a slice.
 pub fn copy_at(dst: &mut [u8], at: usize, src: &[u8])
     requires { ⌜ at + length (now src) ≤ length (now dst) ⌝ }
-    ensures { λ _. ⌜ now (dst .exit) ≡ put (now (dst .entry)) at (now (src .entry)) ⌝ }
+    ensures { λ _. ⌜ Writes dst at (now (src .entry)) ⌝ }
 {
     let mut i = 0;
     while i < src.len() {
@@ -25,7 +25,7 @@ pub fn copy_at(dst: &mut [u8], at: usize, src: &[u8])
 // Copies n bytes from a place of two joined strings to the front of a slice.
 pub fn copy_joined(dst: &mut [u8], a: &[u8], b: &[u8], at: usize, n: usize)
     requires { ⌜ (n ≤ length (now dst)) × (at + n ≤ length (now a) + length (now b)) ⌝ }
-    ensures { λ _. ⌜ now (dst .exit) ≡ put (now (dst .entry)) 0 (part (now (a .entry) ++ now (b .entry)) at n) ⌝ }
+    ensures { λ _. ⌜ Writes dst 0 (part (now (a .entry) ++ now (b .entry)) at n) ⌝ }
 {
     if a.len() <= at {
         let from = at - a.len();
@@ -44,7 +44,7 @@ pub fn copy_joined(dst: &mut [u8], a: &[u8], b: &[u8], at: usize, n: usize)
 // Writes n zeros at place at of a slice.
 pub fn zero_at(dst: &mut [u8], at: usize, n: usize)
     requires { ⌜ at + n ≤ length (now dst) ⌝ }
-    ensures { λ _. ⌜ now (dst .exit) ≡ put (now (dst .entry)) at (replicate n 0) ⌝ }
+    ensures { λ _. ⌜ Writes dst at (replicate n 0) ⌝ }
 {
     let mut i = 0;
     while i < n {
@@ -56,7 +56,7 @@ pub fn zero_at(dst: &mut [u8], at: usize, n: usize)
 // Writes all of src, xored with the front of mask, at place at of a slice.
 pub fn xor_at(dst: &mut [u8], at: usize, src: &[u8], mask: &[u8])
     requires { ⌜ (at + length (now src) ≤ length (now dst)) × (length (now src) ≤ length (now mask)) ⌝ }
-    ensures { λ _. ⌜ now (dst .exit) ≡ put (now (dst .entry)) at (xors (now (src .entry)) (now (mask .entry))) ⌝ }
+    ensures { λ _. ⌜ Writes dst at (xors (now (src .entry)) (now (mask .entry))) ⌝ }
 {
     let mut i = 0;
     while i < src.len() {
@@ -78,7 +78,7 @@ pub fn load(src: &[u8], at: usize) -> Block
 // Writes a block at place at of a slice.
 pub fn store(dst: &mut [u8], at: usize, block: Block)
     requires { ⌜ at + 16 ≤ length (now dst) ⌝ }
-    ensures { λ _. ⌜ now (dst .exit) ≡ put (now (dst .entry)) at block ⌝ }
+    ensures { λ _. ⌜ Writes dst at block ⌝ }
 {
     copy_at(dst, at, &block);
 }
