@@ -111,7 +111,7 @@ number-most RingLength = omega arith
 number-most HeaderPlan = omega arith
 
 -- what a match tells of an answer: 0 and 1 are the places of its cases
-abbrev pub IsOk : Answer → Type 0
+abbrev IsOk : Answer → Type 0
 IsOk a = OneOf (0 ∷ []) (declared.tagOf the-type a)
 
 abbrev pub IsRefused : Answer → Type 0
@@ -199,7 +199,7 @@ module _ (rows : List Row) (test : Bool) where
   abbrev table : List Row
   table = rows ++ (row 8 (not test) ∷ [])
 
-  pub by-rows : (first rows ≡ 0 → ⊥) → first table ≡ first rows
+  by-rows : (first rows ≡ 0 → ⊥) → first table ≡ first rows
   by-rows z = first-stop rows (row 8 (not test) ∷ []) z
 
   pub by-test : lacks 0 rows ≡ true → first rows ≡ 0 → first table ≡ cond (not test) 8 0

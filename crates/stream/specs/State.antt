@@ -87,7 +87,7 @@ usedTail s = take (tailLength (s .total)) (s .tail)
 
 -- a state with other values in what calls change, in the fields' order;
 -- width, round keys, L and D stay as its begin set them
-abbrev pub withProgress : Stream → ℕ → List ℕ → List ℕ → List ℕ → ℕ → ℕ → ℕ → List ℕ → Stream
+abbrev withProgress : Stream → ℕ → List ℕ → List ℕ → List ℕ → ℕ → ℕ → ℕ → List ℕ → Stream
 withProgress s stage chain v kept total written len tail =
     record {
       stage = stage;
