@@ -3,143 +3,169 @@
 use mathlib.Core.Path.{_≡_, refl, ap, ap₂, sym, subst, _∙_}
 use mathlib.Core.Bool.{Bool, true, false, not, cond, _&&_}
 use mathlib.Core.List.{List, [], _∷_, _++_}
-use Prim.Native.Nat.{ℕ, pred, _+_, _-_, _*_, _<_}
+use mathlib.Core.Logic.{_⊎_, inl, inr}
+use Prim.{tt}
+use Prim.Native.Nat.{ℕ, pred, _+_, _-_, _*_, _<_, max}
 use native.Mathlib.Decide.{ℕ-discrete}
 use native.Mathlib.Omega.{arith}
 use lib.Dec.{ltb, eqb}
-use lib.ListN.{length, getD}
-use borrow.Author.Tests.{eq-eqb, ne-eqb}
+use lib.ListN.{length, getD, replicate}
+use borrow.Author.Tests.{eqb-true, eqb-false, eq-eqb, ne-eqb, not-false}
+use Rattle.octets.specs.Octets.{put}
+use Rattle.cmac.specs.Cmac.{zeros}
 use Rattle.header.specs.Header.{total, strings}
-use Rattle.header.specs.Blocks.{blocksOfAll}
 use Rattle.answers.specs.declared.Answer.{Answer}
 use Rattle.answers.specs.declared.Answer.the-variants.{Ok, Refused}
 use Rattle.answers.specs.declared.Refusal.{Refusal}
 use Rattle.answers.specs.declared.Refusal.the-variants.{KeyLength, HeaderCount, HeaderLengths, TooLong, SealedLength, OutputShort, ScratchShort, Forged, State, EmptyNonce, RingLength, HeaderPlan}
-use Rattle.answers.specs.Answer.{Outcome, Row, row, first, settle, forgedOr, success, refusal, forged, numberOf, outcomeOf}
-use Rattle.answers.proofs.Laws.{settle-complete, settle-refused, settle-number, settle-forged, settle-other, settle-verdict, lacks, first-not, first-pass, first-stop, first-none, refusal-number, outcome-work, none-where}
-use Rattle.worst_header.specs.WorstHeader.{planRows, GivesWorst}
-use Rattle.whole.specs.Calls.{CallResult, refusedCall, isKeyLength, headerRows, openRows, sealTable, sealNumber, openTable, openNumber}
-use Rattle.whole.specs.Ring.{slotCount, slotKey, ringRows, RingResult, openSlot, opensAt}
+use Rattle.answers.specs.Answer.{Outcome, Row, row, first, settle, forgedOr, numberOf, outcomeOf}
+use Rattle.answers.proofs.Laws.{first-not, first-pass, first-stop, first-none, refusal-number, outcome-work, none-where}
+use Rattle.whole.specs.Calls.{CallResult, isKeyLength, limit, headerRows, sealRows, openRows, refusedCall, sealedCall, openedCall, forgedCall, sealNumber, sealCall, openNumber, openCall}
+use Rattle.whole.specs.Ring.{slotCount, slotKey, ringRows, triedWork, RingResult, openSlot, opensAt, workAt}
 use Rattle.whole.specs.Siv.{genuine, genuineWork}
-use Rattle.whole.specs.Work.{blockWork}
-use Rattle.whole.proofs.Laws.{header-admits, seal-admits, seal-numbered, seal-complete, seal-untouched, seal-count, openJudged, open-admits, open-passed, open-forged, open-unpassed, open-numbered, open-complete, open-forgery, open-untouched, open-count}
+use Rattle.whole.proofs.Laws.{header-admits, seal-count, openJudged, open-passed, open-forged, open-unpassed, open-numbered, open-count}
 use Rattle.whole.proofs.Lengths.{sealed-lengths, genuine-lengths}
 use Rattle.whole.proofs.Ring.{RingWhole, ring-admits, slot-keyed, Chosen, chosen-within, chosen-closed, chosen-same, RingCase, tries, refuses, open-ring-case, ring-idle, ring-work}
 use Rattle.head.specs.declared.Head.{Head}
-use Rattle.head.specs.Head.{headOfWork, extendedWork, fitsHead, restRows, MakeResult, madeHead, refusedHead, makeHead, extendHead}
+use Rattle.head.specs.Head.{headOf, headOfWork, extended, extendedWork, fitsHead, restRows, MakeResult, madeHead, refusedHead, makeHead, extendHead}
 use Rattle.head.proofs.Laws.{head-lengths, extended-lengths, rest-admits}
-use Rattle.stream.specs.declared.Stream.{Stream}
-use Rattle.stream.specs.State.{ended, tagOfStateWork}
-use Rattle.stream.specs.Steps.{StepResult, doneStep, refusedStep, tagRows, beginSealer, beginOpener, beginSealerFrom, beginOpenerFrom, addStep, turnStep, writeStep, closeStep, feedStep, finishTable, forgedStep, finishStep}
-use Rattle.kinphlor.specs.Interface.{aeadLens, emptyNonce, fromC}
-use Rattle.demands.specs.First.{order, keeps, FirstDue, none, here, later, FirstSeal, FirstOpen, rowsFromC, FirstFromC, noSlot, FirstRing, FirstWorst, restTable, FirstHead, FirstStep, FirstFinish, First}
+use Rattle.stream.specs.State.{ended, start}
+use Rattle.stream.specs.Steps.{StepResult, doneStep, refusedStep, beginBy, beginSealer, beginOpener, beginSealerFrom, beginOpenerFrom}
+use Rattle.kinphlor.specs.Interface.{emptyNonce, fromC}
+use Rattle.demands.specs.Figures.{over, sum, headerBlocks, wholeWork}
+use Rattle.demands.specs.First.{called, cleared, FirstSeal, FirstOpen, ringTable, FirstRing, headerTable, restTable, FirstHead, FirstBegin, First}
+use Rattle.demands.specs.State.{preparedHead, longerHead, begunState}
+use Rattle.demands.specs.Steps.{stepped}
+use Rattle.demands.specs.Table.{told, FirstDue}
+use Rattle.demands.proofs.Figures.{Tells, never, below, not-below, equal, otherwise, unless, judges, one-of, key-length, key-width, ring-length, total-sum, blocks-all, work-all}
+use Rattle.demands.proofs.Given.{by-call}
 use Rattle.demands.proofs.Parts.{from-c-parts, ring-parts}
-use Rattle.demands.proofs.Pieces.{piece-work, added-work}
-use Rattle.demands.proofs.Slots.{chosen-noSlot, ring-case-from-c}
+use Rattle.demands.proofs.Pieces.{head-figures}
+use Rattle.demands.proofs.Plans.{by-plan}
+use Rattle.demands.proofs.Slots.{noSlot, is-genuine, none-genuine, chosen-noSlot, ring-case-from-c}
+use Rattle.demands.proofs.Table.{Told, first-due, skips, forged-number, by-table}
 
--- `first` takes the first row that is due
-first-due : (rs : List Row) → FirstDue rs (first rs)
-first-due [] = none
-first-due (r ∷ rs) = go (r .due) refl (first-due rs)
-  where
-    go : (d : Bool) → r .due ≡ d → FirstDue rs (first rs) → FirstDue (r ∷ rs) (cond d (r .number) (first rs))
-    go true e f = here e
-    go false e f = later e f
+-- ---- the header list
 
--- what a call leaves, by the result that it is
-leaves : {call result : CallResult} → call ≡ result → (call .outcome ≡ result .outcome) × (call .output ≡ result .output) × (call .scratch ≡ result .scratch)
-leaves e = (ap (λ (r : CallResult). r .outcome) e, ap (λ (r : CallResult). r .output) e, ap (λ (r : CallResult). r .scratch) e)
+-- the lengths sum to the header bytes, or 3 is due
+summed : (lens : List ℕ) (n : ℕ) → Tells (not (eqb (total lens) n)) (sum lens ≡ n → ⊥)
+summed lens n = subst (λ (m : ℕ). Tells (not (eqb m n)) (sum lens ≡ n → ⊥)) (sym (total-sum lens)) (otherwise (equal (sum lens) n))
+
+-- success and 8 have other numbers than the rows before the lengths
+past : {m : ℕ} → (m ≡ 0) ⊎ (m ≡ 8) → (n : ℕ) → eqb n 0 ≡ false → eqb n 8 ≡ false → n ≡ m → ⊥
+past (inl z) n a b p = eqb-false n 0 a (p ∙ z)
+past (inr z) n a b p = eqb-false n 8 b (p ∙ z)
+
+-- ---- whole calls
+
+numberIn : CallResult → ℕ
+numberIn r = r .outcome .number
 
 module _ (key bytes lens input output scratch : List ℕ) where
-  seal-first : FirstDue (sealTable key bytes lens input output scratch) (sealNumber key bytes lens input output scratch)
-  unfolding sealNumber
-  seal-first = first-due (sealTable key bytes lens input output scratch)
+  abbrev ss : List (List ℕ)
+  ss = strings bytes lens
 
-  open-first : FirstDue (openTable key bytes lens input output scratch) (openNumber key bytes lens input output scratch)
-  unfolding openNumber
-  open-first = first-due (openTable key bytes lens input output scratch)
+  abbrev listRows : List Row → List Row
+  listRows rest = row 2 (ltb 126 (length lens)) ∷ row 3 (not (eqb (total lens) (length bytes))) ∷ rest
 
-  open-lengths : openJudged key bytes lens input output scratch ≡ 0 → genuineWork key (strings bytes lens) input ≡ blockWork lens (length input - 16)
-  open-lengths j = genuine-lengths key bytes lens input (omega (arith, open-admits key bytes lens input output scratch j .sums))
+  -- with a test for an empty nonce
+  abbrev headRows : Bool → List Row → List Row
+  headRows empty rest = row 1 (not (isKeyLength (length key))) ∷ row 10 empty ∷ listRows rest
 
-  untouched : ℕ → CallResult
-  untouched n = refusedCall n output scratch
+  sums-past : (empty : Bool) (rest : List Row) (m : ℕ) → (m ≡ 0) ⊎ (m ≡ 8) → first (headRows empty rest) ≡ m → total lens ≡ length bytes
+  sums-past empty rest m z e =
+      let past1 = skips (not (isKeyLength (length key))) 1 _ m (past z 1 refl refl) e in
+      let past10 = skips empty 10 _ m (past z 10 refl refl) (past1 .1) in
+      let past2 = skips (ltb 126 (length lens)) 2 _ m (past z 2 refl refl) (past10 .1) in
+      eqb-true (total lens) (length bytes) (not-false _ (skips (not (eqb (total lens) (length bytes))) 3 _ m (past z 3 refl refl) (past2 .1) .0))
 
-  sealing : FirstSeal key bytes lens input output scratch
-  unfolding untouched
-  sealing =
-      let number = sym (seal-numbered key bytes lens input output scratch) in
-      record {
-        ordered = refl;
-        first = subst (FirstDue (sealTable key bytes lens input output scratch)) number seal-first;
-        done = λ e.
-            let works = sealed-lengths key bytes lens input (omega (arith, seal-admits key bytes lens input output scratch (number ∙ e) .sums)) in
-            let left = leaves (seal-complete key bytes lens input output scratch (number ∙ e)) in
-            (left .0 ∙ ap (success (length input + 16)) works, left .1, left .2);
-        refused = λ n e z. leaves (seal-untouched key bytes lens input output scratch (λ p. z (sym (number ∙ e) ∙ p)) ∙ ap untouched (number ∙ e));
-      }
+  abbrev sealingRows : Bool → List Row
+  sealingRows empty = headRows empty (sealRows (length input) (length output) (length scratch))
 
-  opening : FirstOpen key bytes lens input output scratch
-  unfolding untouched
-  opening =
-      let number = sym (open-numbered key bytes lens input output scratch) in
-      record {
-        ordered = refl;
-        first = subst (FirstDue (openTable key bytes lens input output scratch)) number open-first;
-        done = λ e.
-            let left = leaves (open-complete key bytes lens input output scratch (number ∙ e)) in
-            (left .0 ∙ ap (success (length input - 16)) (open-lengths (open-passed key bytes lens input output scratch (number ∙ e))), left .1, left .2);
-        forged = λ e.
-            let left = leaves (open-forgery key bytes lens input output scratch (number ∙ e)) in
-            (left .0 ∙ ap forged (open-lengths (open-forged key bytes lens input output scratch (number ∙ e))), left .1, left .2);
-        refused = λ n e z w. leaves (open-untouched key bytes lens input output scratch (λ p. z (sym (number ∙ e) ∙ p)) (λ p. w (sym (number ∙ e) ∙ p)) ∙ ap untouched (number ∙ e));
-      }
+  by-seal : (empty : Bool) (E : Type 0) → Tells empty E → (result : CallResult)
+      → result ≡ settle (first (sealingRows empty)) (sealedCall key bytes lens input output scratch) (λ n. refusedCall n output scratch)
+      → FirstSeal key bytes lens input output scratch E result
+  unfolding put numberIn
+  by-seal empty E tells result settled =
+      by-table CallResult numberIn (sealingRows empty) _ result (sealedCall key bytes lens input output scratch) _ (λ n. refusedCall n output scratch) _ settled
+      (refl, otherwise (key-length (length key)),
+      (refl, tells,
+      (refl, below 126 (length lens),
+      (refl, summed lens (length bytes),
+      (refl, below limit (length input),
+      (refl, below (length output) (length input + 16),
+      (refl, below (length scratch) (max (length input) 16), tt)))))))
+      refl refl (λ n. refl)
+      (λ e.
+      let works = sealed-lengths key bytes lens input (omega (arith, sums-past empty (sealRows (length input) (length output) (length scratch)) 0 (inl refl) e)) ∙ work-all lens (length input) in
+      ap (λ (w : ℕ). called 0 (length input + 16) w (sealedCall key bytes lens input output scratch .output) (cleared scratch (length input))) works)
+      (λ n e. refl)
+
+  abbrev textRows : List Row
+  textRows = openRows (length input) (length output) (length scratch) ++ (row 8 (not (genuine key ss input)) ∷ [])
+
+  abbrev openingRows : Bool → List Row
+  openingRows empty = headRows empty textRows
+
+  abbrev refused : ℕ → CallResult
+  refused = forgedOr (forgedCall key bytes lens input output scratch) (λ n. refusedCall n output scratch)
+
+  abbrev refusedBy : ℕ → ℕ → CallResult
+  refusedBy n w = cond (eqb n 8) (called 8 0 w (over output 0 (replicate (length input - 16) 0)) (cleared scratch (length input - 16))) (called n 0 0 output scratch)
+
+  by-open : (empty : Bool) (E : Type 0) → Tells empty E → (result : CallResult)
+      → result ≡ settle (first (openingRows empty)) (openedCall key bytes lens input output scratch) refused
+      → FirstOpen key bytes lens input output scratch E result
+  unfolding put numberIn
+  by-open empty E tells result settled =
+      by-table CallResult numberIn (openingRows empty) _ result (openedCall key bytes lens input output scratch) _ refused _ settled
+      (refl, otherwise (key-length (length key)),
+      (refl, tells,
+      (refl, below 126 (length lens),
+      (refl, summed lens (length bytes),
+      (refl, below (length input) 16,
+      (refl, below 1048592 (length input),
+      (refl, below (length output) (length input - 16),
+      (refl, below (length scratch) (max (length input - 16) 16),
+      (refl, otherwise (is-genuine key ss input), tt)))))))))
+      refl refl (forged-number numberIn (forgedCall key bytes lens input output scratch) (λ n. refusedCall n output scratch) refl (λ n. refl))
+      (λ e. ap (λ (w : ℕ). called 0 (length input - 16) w (openedCall key bytes lens input output scratch .output) (cleared scratch (length input - 16))) (works 0 (inl refl) e))
+      (λ n e. leaves n e (ℕ-discrete n 8))
+    where
+      works : (m : ℕ) → (m ≡ 0) ⊎ (m ≡ 8) → first (openingRows empty) ≡ m → genuineWork key ss input ≡ wholeWork lens (length input - 16)
+      works m z e = genuine-lengths key bytes lens input (omega (arith, sums-past empty textRows m z e)) ∙ work-all lens (length input - 16)
+
+      leaves : (n : ℕ) → first (openingRows empty) ≡ n → Dec (n ≡ 8) → refused n ≡ refusedBy n (wholeWork lens (length input - 16))
+      leaves n e (yes z) = ap (refusedBy n) (works n (inr z) e)
+      leaves n e (no z) = simp (ne-eqb n 8 z)
+
+  sealing : FirstSeal key bytes lens input output scratch ⊥ (sealCall key bytes lens input output scratch)
+  unfolding sealCall sealNumber
+  sealing = by-seal false ⊥ never _ refl
+
+  opening : FirstOpen key bytes lens input output scratch ⊥ (openCall key bytes lens input output scratch)
+  unfolding openCall openNumber
+  opening = by-open false ⊥ never _ refl
 
 -- ---- the C interface
 
-module _ (rest : List Row) (nonce : ℕ) (key output scratch : List ℕ) (call : CallResult) where
-  abbrev table : List Row
-  table = row 1 (not (isKeyLength (length key))) ∷ rest
-
-  from-c : keeps order (rowsFromC nonce table) ≡ true → lacks 10 table ≡ true → call .outcome .number ≡ first table → FirstFromC table nonce output scratch call (fromC nonce key output scratch call)
-  unfolding fromC emptyNonce
-  from-c k l e = go (isKeyLength (length key)) refl (eqb nonce 0) refl
-    where
-      not-ten : call .outcome .number ≡ 10 → ⊥
-      not-ten z = first-not 10 table l (λ p. omega (arith, p)) (sym e ∙ z)
-
-      by-call : (n : ℕ) → (isKeyLength (length key) && eqb nonce 0) ≡ false → first table ≡ n → FirstDue (rowsFromC nonce table) n → FirstFromC table nonce output scratch call (fromC nonce key output scratch call)
-      by-call n off number due =
-          let same : fromC nonce key output scratch call ≡ call = ap (λ (t : Bool). cond t (refusedCall 10 output scratch) call) off in
-          let same-number : fromC nonce key output scratch call .outcome .number ≡ call .outcome .number = ap (λ (r : CallResult). r .outcome .number) same in
-          record {
-            ordered = k;
-            first = subst (FirstDue (rowsFromC nonce table)) (sym (same-number ∙ e ∙ number)) due;
-            empty = λ z. absurd (not-ten (sym same-number ∙ z));
-            otherwise = λ z. same;
-          }
-
-      go : (a : Bool) → isKeyLength (length key) ≡ a → (b : Bool) → eqb nonce 0 ≡ b → FirstFromC table nonce output scratch call (fromC nonce key output scratch call)
-      go false a b z =
-          by-call 1 (ap (λ (t : Bool). t && eqb nonce 0) a) (ap (λ (t : Bool). cond (not t) 1 (first rest)) a) (here (ap not a))
-      go true a true z =
-          let same : fromC nonce key output scratch call ≡ refusedCall 10 output scratch = ap (λ (t : Bool). cond t (refusedCall 10 output scratch) call) (ap₂ _&&_ a z) in
-          let same-number : fromC nonce key output scratch call .outcome .number ≡ 10 = ap (λ (r : CallResult). r .outcome .number) same in
-          record {
-            ordered = k;
-            first = subst (FirstDue (rowsFromC nonce table)) (sym same-number) (later (ap not a) (here z));
-            empty = λ n. (ap (λ (r : CallResult). r .outcome) same, ap (λ (r : CallResult). r .output) same, ap (λ (r : CallResult). r .scratch) same);
-            otherwise = λ n. absurd (n same-number);
-          }
-      go true a false z =
-          by-call (first rest) (ap₂ _&&_ a z) (ap (λ (t : Bool). cond (not t) 1 (first rest)) a) (later (ap not a) (later z (first-due rest)))
+-- an empty nonce is judged behind the key
+from-c : (rest : List Row) (nonce : ℕ) (key output scratch : List ℕ) (done : CallResult) (gone : ℕ → CallResult) → gone 10 ≡ refusedCall 10 output scratch
+    → fromC nonce key output scratch (settle (first (row 1 (not (isKeyLength (length key))) ∷ rest)) done gone)
+    ≡ settle (first (row 1 (not (isKeyLength (length key))) ∷ row 10 (eqb nonce 0) ∷ rest)) done gone
+unfolding fromC emptyNonce
+from-c rest nonce key output scratch done gone e = go (isKeyLength (length key)) (eqb nonce 0)
+  where
+    go : (k z : Bool) → cond (k && z) (refusedCall 10 output scratch) (settle (first (row 1 (not k) ∷ rest)) done gone) ≡ settle (first (row 1 (not k) ∷ row 10 z ∷ rest)) done gone
+    go false z = refl
+    go true true = sym e
+    go true false = refl
 
 -- ---- a ring of keys
 
--- an outcome with another work
-with-work : {call o : Outcome} {w v : ℕ} → call ≡ o → w ≡ v
-    → _≡_ {A = Outcome} (record { number = call .number; count = call .count; work = w }) (record { number = o .number; count = o .count; work = v })
-with-work e f = ap₂ (λ (x : Outcome) (k : ℕ). record { number = x .number; count = x .count; work = k }) e f
+-- a call with another work
+abbrev withWork : CallResult → ℕ → CallResult
+withWork c w = record { outcome = told (c .outcome .number) (c .outcome .count) w; output = c .output; scratch = c .scratch }
 
 module _ (keyLength : ℕ) (ring bytes lens input output scratch : List ℕ) where
   abbrev count : ℕ
@@ -180,120 +206,156 @@ module _ (keyLength : ℕ) (ring bytes lens input output scratch : List ℕ) whe
           ap (λ (b : Bool). first (lengthRows ++ forgedRow b)) (chosen-noSlot genuineAt count (a .1 .some) (chosen-same _ count genuineAt agree g))
       go (no z) = first-stop lengthRows (forgedRow (not (genuineAt s))) z ∙ sym (first-stop lengthRows (forgedRow (noSlot genuineAt count)) z)
 
-  module _ (behind : List Row) where
+  -- with a test for an empty nonce
+  module _ (empty : Bool) (E : Type 0) (tells : Tells empty E) where
     abbrev front : List Row
-    front = ringRows keyLength (length ring) ++ behind
+    front = ringRows keyLength (length ring) ++ (row 10 empty ∷ [])
 
     abbrev back : List Row
     back = lengthRows ++ forgedRow (noSlot genuineAt count)
 
-    -- the work for the keys up to slot s, or for all
-    abbrev tried : ℕ → Bool → ℕ
-    tried s t = cond t (s + 1) count * blockWork lens (length input - 16)
+    due : FirstDue (ringTable keyLength ring bytes lens input output scratch E) (first (front ++ back))
+    due =
+        first-due (front ++ back) (ringTable keyLength ring bytes lens input output scratch E)
+        (refl, otherwise (key-length keyLength),
+        (refl, otherwise (ring-length keyLength (length ring)),
+        (refl, tells,
+        (refl, below 126 (length lens),
+        (refl, summed lens (length bytes),
+        (refl, below (length input) 16,
+        (refl, below 1048592 (length input),
+        (refl, below (length output) (length input - 16),
+        (refl, below (length scratch) (max (length input - 16) 16),
+        (refl, none-genuine keyLength ring (strings bytes lens) input count, tt))))))))))
 
-    -- a ring's call by its table, whatever rows are put behind the ring's
-    by-ring : {result : RingResult} → keeps order (front ++ back) ≡ true → lacks 0 behind ≡ true → lacks 8 behind ≡ true
-        → RingCase keyLength ring bytes lens input output scratch (first front) result → FirstRing keyLength ring bytes lens input output scratch (front ++ back) result
-    by-ring k l l8 (refuses z) =
+    abbrev work : ℕ
+    work = wholeWork lens (length input - 16)
+
+    -- what 8 and another refusal leave, with the work of so many blocks for 8
+    abbrev refusedRing : ℕ → RingResult
+    refusedRing n =
+        record { slot = 0; call = cond (eqb n 8) (called 8 0 (count * work) (over output 0 (replicate (length input - 16) 0)) (cleared scratch (length input - 16))) (called n 0 0 output scratch) }
+
+    by-ring : {result : RingResult} → RingCase keyLength ring bytes lens input output scratch (first front) result → FirstRing keyLength ring bytes lens input output scratch E result
+    by-ring (refuses z) =
         record {
-          ordered = k;
-          first = subst (FirstDue (front ++ back)) (first-stop front back z) (first-due (front ++ back));
+          ordered = refl;
+          first = subst (FirstDue (ringTable keyLength ring bytes lens input output scratch E)) (first-stop front back z) due;
           done = λ e. absurd (z e);
-          forged = λ e. absurd (first-not 8 front l8 (λ p. omega (arith, p)) e);
-          refused = λ n e m m8. (ap refusal e, refl, refl);
-          slotless = λ m. refl;
+          refused = λ n e d.
+              ap (λ (m : ℕ). record { slot = 0; call = called m 0 0 output scratch }) e
+              ∙ sym (simp (ne-eqb n 8 (λ p. first-not 8 front refl (λ q. omega (arith, q)) (e ∙ p))));
         }
-    by-ring k l l8 (tries {s} z g) =
-        let one = opening (slotKey keyLength ring s) bytes lens input output scratch in
-        let due = first-none (ringRows keyLength (length ring)) behind refl z .0 in
-        let number = chosen-number due g in
-        let told = sym (open-numbered (slotKey keyLength ring s) bytes lens input output scratch) in
+    by-ring (tries {s} z g) =
         record {
-          ordered = k;
-          first = subst (FirstDue (front ++ back)) (first-pass front back l z ∙ sym number) (first-due (front ++ back));
+          ordered = refl;
+          first = subst (FirstDue (ringTable keyLength ring bytes lens input output scratch E)) (first-pass front back refl z ∙ sym (chosen-number ring-passes g)) due;
           done = λ e.
-              let judged = open-passed (slotKey keyLength ring s) bytes lens input output scratch (told ∙ e) in
-              let left = one .done e in
-              (with-work (left .0) (ring-work keyLength ring bytes lens input output scratch due g judged ∙ ap (tried s) (eq-eqb _ 0 e)), left .1, left .2);
-          forged = λ e.
-              let judged = open-forged (slotKey keyLength ring s) bytes lens input output scratch (told ∙ e) in
-              let left = one .forged e in
-              (with-work (left .0) (ring-work keyLength ring bytes lens input output scratch due g judged ∙ ap (tried s) (ne-eqb _ 0 (λ y. omega (arith, sym e ∙ y)))), left .1, left .2);
-          refused = λ n e m m8.
-              let unread = open-unpassed (slotKey keyLength ring s) bytes lens input output scratch (λ y. m (sym (told ∙ e) ∙ y)) (λ y. m8 (sym (told ∙ e) ∙ y)) in
-              let left = one .refused n e m m8 in
-              (with-work (left .0) (ring-idle keyLength ring bytes lens input output scratch due s (chosen-within _ count (ring-admits keyLength (length ring) due .1 .some) g) unread), left .1, left .2);
-          slotless = λ m. chosen-closed _ count g (ne-eqb _ 0 m);
+              ap (λ (c : CallResult). record { slot = s; call = c })
+              (ap₂ withWork (one .done e) (tried (open-passed (slotKey keyLength ring s) bytes lens input output scratch (number ∙ e)) ∙ ap (λ (t : Bool). cond t (s + 1) count * work) (eq-eqb _ 0 e)));
+          refused = λ n e d. at n e d (ℕ-discrete n 8);
         }
+      where
+        ring-passes : first (ringRows keyLength (length ring)) ≡ 0
+        ring-passes = first-none (ringRows keyLength (length ring)) (row 10 empty ∷ []) refl z .0
 
--- ---- the worst header list
+        one : FirstOpen (slotKey keyLength ring s) bytes lens input output scratch ⊥ (openCall (slotKey keyLength ring s) bytes lens input output scratch)
+        one = opening (slotKey keyLength ring s) bytes lens input output scratch
 
-by-plan : (h k least : ℕ) {outcome : Outcome} {places : List ℕ} {blocks : ℕ} → GivesWorst h k least outcome places blocks → FirstWorst h k least outcome places blocks
-by-plan h k least {outcome = outcome} g =
-    let number : outcome .number ≡ first (planRows h k least) = ap (λ (o : Outcome). o .number) (g .answer) in
-    record {
-      ordered = refl;
-      first = subst (FirstDue (planRows h k least)) (sym number) (first-due (planRows h k least));
-      done = λ e. let z = sym number ∙ e in (g .answer ∙ ap refusal z, g .done z);
-      past = λ e. g .done (sym number ∙ e) .past;
-      refused = λ n e due.
-          let zero = g .refused (λ z. due (sym e ∙ number ∙ z)) in
-          (g .answer ∙ ap refusal (sym number ∙ e), zero .0, zero .1);
-    }
+        number : openNumber (slotKey keyLength ring s) bytes lens input output scratch ≡ openCall (slotKey keyLength ring s) bytes lens input output scratch .outcome .number
+        number = sym (open-numbered (slotKey keyLength ring s) bytes lens input output scratch)
 
--- ---- heads and piecewise calls
+        -- the work of all keys that were tried
+        tried : openJudged (slotKey keyLength ring s) bytes lens input output scratch ≡ 0
+            → triedWork (opensAt keyLength ring bytes lens input output scratch) (workAt keyLength ring bytes lens input output scratch) 0 count
+            ≡ cond (opensAt keyLength ring bytes lens input output scratch s) (s + 1) count * work
+        tried judged =
+            ring-work keyLength ring bytes lens input output scratch ring-passes g judged
+            ∙ ap (λ (w : ℕ). cond (opensAt keyLength ring bytes lens input output scratch s) (s + 1) count * w) (work-all lens (length input - 16))
 
-rest-ordered : (h : Head) (lens : List ℕ) (restLength : ℕ) → keeps order (restTable h lens restLength) ≡ true
-rest-ordered h lens restLength = refl
+        at : (n : ℕ) → openCall (slotKey keyLength ring s) bytes lens input output scratch .outcome .number ≡ n → (n ≡ 0 → ⊥) → Dec (n ≡ 8)
+            → record { slot = s; call = withWork (openCall (slotKey keyLength ring s) bytes lens input output scratch) (triedWork (opensAt keyLength ring bytes lens input output scratch) (workAt keyLength ring bytes lens input output scratch) 0 count) }
+            ≡ refusedRing n
+        at n e d (yes z) =
+            let shut = ne-eqb _ 0 (λ p. d (sym e ∙ p)) in
+            ap₂ (λ (i : ℕ) (c : CallResult). record { slot = i; call = c }) (chosen-closed _ count g shut)
+            (ap₂ withWork (one .refused n e d) (tried (open-forged (slotKey keyLength ring s) bytes lens input output scratch (number ∙ e ∙ z)) ∙ ap (λ (t : Bool). cond t (s + 1) count * work) shut)
+            ∙ simp (eq-eqb n 8 z))
+        at n e d (no z) =
+            let unread = open-unpassed (slotKey keyLength ring s) bytes lens input output scratch (λ p. d (sym (number ∙ e) ∙ p)) (λ p. z (sym (number ∙ e) ∙ p)) in
+            let within = chosen-within _ count (ring-admits keyLength (length ring) ring-passes .1 .some) g in
+            ap₂ (λ (i : ℕ) (c : CallResult). record { slot = i; call = c }) (chosen-closed _ count g (ne-eqb _ 0 (λ p. d (sym e ∙ p))))
+            (ap₂ withWork (one .refused n e d) (ring-idle keyLength ring bytes lens input output scratch ring-passes s within unread) ∙ simp (ne-eqb n 8 z))
 
-rest-tag-ordered : (h : Head) (lens : List ℕ) (restLength tagLength : ℕ) → keeps order (restTable h lens restLength ++ tagRows tagLength) ≡ true
-rest-tag-ordered h lens restLength tagLength = refl
+-- ---- heads and begins
 
-by-head : (table : List Row) (w w′ : ℕ) (h : Head) → keeps order table ≡ true → (first table ≡ 0 → w ≡ w′) → FirstHead table (settle (first table) (madeHead w h) refusedHead) w′ h
-by-head table w w′ h k works =
-    let number = settle-number (first table) (madeHead w h) refusedHead (λ (r : MakeResult). r .outcome .number) refl (λ n. refl) in
-    record {
-      ordered = k;
-      first = subst (FirstDue table) (sym number) (first-due table);
-      done = λ e. settle-complete _ (madeHead w h) refusedHead (sym number ∙ e) ∙ ap (λ (n : ℕ). madeHead n h) (works (sym number ∙ e));
-      refused = λ n e z. settle-refused _ (madeHead w h) refusedHead (λ p. z (sym e ∙ number ∙ p)) ∙ ap refusedHead (sym number ∙ e);
-    }
+module _ (key bytes lens : List ℕ) where
+  -- with a test for an opener's tag
+  abbrev headerRowsWith : Bool → List Row
+  headerRowsWith other = headerRows (length key) lens (length bytes) ++ (row 5 other ∷ [])
 
--- a piecewise call whose table gives its number; its work is told from lengths
-by-table : (table : List Row) (n w w′ : ℕ) (next s : Stream) (last output : List ℕ) → keeps order table ≡ true → (first table ≡ 0 → w ≡ w′)
-    → FirstStep table (settle (first table) (doneStep n w next last) (λ m. refusedStep m s output)) (doneStep n w′ next last) s output
-by-table table n w w′ next s last output k works =
-    let done : StepResult = doneStep n w next last in
-    let number = settle-number (first table) done (λ m. refusedStep m s output) (λ (r : StepResult). r .outcome .number) refl (λ m. refl) in
-    record {
-      ordered = k;
-      first = subst (FirstDue table) (sym number) (first-due table);
-      done = λ e. settle-complete _ done (λ m. refusedStep m s output) (sym number ∙ e) ∙ ap (λ (v : ℕ). doneStep n v next last) (works (sym number ∙ e));
-      refused = λ m e z. settle-refused _ done (λ i. refusedStep i s output) (λ p. z (sym e ∙ number ∙ p)) ∙ ap (λ (i : ℕ). refusedStep i s output) (sym number ∙ e);
-    }
+  header-told : (other : Bool) (B : Type 0) → Tells other B → Told (headerRowsWith other) (headerTable key bytes lens B)
+  header-told other B tells =
+      (refl, otherwise (key-length (length key)), (refl, below 126 (length lens), (refl, summed lens (length bytes), (refl, tells, tt))))
 
--- the work of a header list's strings, where no refusal is due for key and list
-header-work : (key bytes lens : List ℕ) → first (headerRows (length key) lens (length bytes)) ≡ 0 → headOfWork (strings bytes lens) ≡ 2 + blocksOfAll lens
-header-work key bytes lens e = head-lengths bytes lens (omega (arith, header-admits (length key) lens (length bytes) e .1))
+  -- the head of an admitted list, and its work
+  made : (other : Bool) → first (headerRowsWith other) ≡ 0
+      → (headOf key (strings bytes lens) ≡ preparedHead key (strings bytes lens)) × (headOfWork (strings bytes lens) ≡ 2 + headerBlocks lens)
+  made other e =
+      let admits = header-admits (length key) lens (length bytes) (first-none (headerRows (length key) lens (length bytes)) (row 5 other ∷ []) refl e .0) in
+      (head-figures key (strings bytes lens) (admits .0), head-lengths bytes lens (omega (arith, admits .1)) ∙ ap (λ (n : ℕ). 2 + n) (blocks-all lens))
 
--- and of those that follow a head's
-rest-work : (h : Head) (bytes lens : List ℕ) → first (restRows h lens (length bytes)) ≡ 0 → extendedWork (strings bytes lens) ≡ blocksOfAll lens
-rest-work h bytes lens e = extended-lengths bytes lens (omega (arith, rest-admits h lens (length bytes) e .sums))
+  by-begin : (other : Bool) (B : Type 0) → Tells other B → (stage : ℕ) (v : List ℕ) (result : StepResult)
+      → result ≡ beginBy (first (headerRowsWith other)) (headOfWork (strings bytes lens)) (headOf key (strings bytes lens)) stage v
+      → FirstBegin (headerTable key bytes lens B) result (2 + headerBlocks lens) (begunState (preparedHead key (strings bytes lens)) stage v)
+  by-begin other B tells stage v result settled =
+      by-table StepResult (λ (r : StepResult). r .outcome .number) (headerRowsWith other) _ result (doneStep 0 (headOfWork (strings bytes lens)) (start (headOf key (strings bytes lens)) stage v) []) _
+      (λ n. refusedStep n ended []) _ settled (header-told other B tells) refl refl (λ n. refl)
+      (λ e. ap₂ (λ (w : ℕ) (h : Head). stepped 0 0 w (begunState h stage v) []) (made other e .1) (made other e .0)) (λ n e. refl)
 
-finishing : (s : Stream) (output : List ℕ) → FirstFinish s output
-unfolding finishStep
-finishing s output =
-    let done : StepResult = doneStep (s .total) (tagOfStateWork s) ended output in
-    let number = settle-verdict (first (finishTable s output)) done (forgedStep s output) (λ m. refusedStep m s output) (λ (r : StepResult). r .outcome .number) refl refl (λ m. refl) in
-    record {
-      ordered = refl;
-      first = subst (FirstDue (finishTable s output)) (sym number) (first-due (finishTable s output));
-      done = λ e. settle-complete _ done (forgedOr (forgedStep s output) (λ m. refusedStep m s output)) (sym number ∙ e);
-      forged = λ e. settle-forged _ done (forgedStep s output) (λ m. refusedStep m s output) (sym number ∙ e);
-      refused = λ m e z z8.
-          settle-other _ done (forgedStep s output) (λ i. refusedStep i s output) (λ p. z (sym e ∙ number ∙ p)) (λ p. z8 (sym e ∙ number ∙ p))
-          ∙ ap (λ (i : ℕ). refusedStep i s output) (sym number ∙ e);
-    }
+  making : FirstHead (headerTable key bytes lens ⊥) (makeHead key bytes lens) (2 + headerBlocks lens) (preparedHead key (strings bytes lens))
+  unfolding makeHead
+  making =
+      by-table MakeResult (λ (r : MakeResult). r .outcome .number) (headerRowsWith false) _ _ (madeHead (headOfWork (strings bytes lens)) (headOf key (strings bytes lens))) _ refusedHead _ refl
+      (header-told false ⊥ never) refl refl (λ n. refl)
+      (λ e. ap₂ madeHead (made false e .1) (made false e .0)) (λ n e. refl)
+
+module _ (h : Head) (bytes lens : List ℕ) where
+  abbrev restRowsWith : Bool → List Row
+  restRowsWith other = restRows h lens (length bytes) ++ (row 5 other ∷ [])
+
+  rest-told : (other : Bool) (B : Type 0) → Tells other B → Told (restRowsWith other) (restTable h bytes lens B)
+  unfolding fitsHead
+  rest-told other B tells =
+      (refl, judges (one-of (unless (key-width (h .width))) (not-below 126 (h .count))),
+      (refl, below 126 (h .count + length lens), (refl, summed lens (length bytes), (refl, tells, tt))))
+
+  rest-work : (other : Bool) → first (restRowsWith other) ≡ 0 → extendedWork (strings bytes lens) ≡ headerBlocks lens
+  rest-work other e =
+      let admits = rest-admits h lens (length bytes) (first-none (restRows h lens (length bytes)) (row 5 other ∷ []) refl e .0) in
+      extended-lengths bytes lens (omega (arith, admits .sums)) ∙ blocks-all lens
+
+  by-begin-from : (other : Bool) (B : Type 0) → Tells other B → (stage : ℕ) (v : List ℕ) (result : StepResult)
+      → result ≡ beginBy (first (restRowsWith other)) (extendedWork (strings bytes lens)) (extended h (strings bytes lens)) stage v
+      → FirstBegin (restTable h bytes lens B) result (headerBlocks lens) (begunState (longerHead h (strings bytes lens)) stage v)
+  unfolding extended
+  by-begin-from other B tells stage v result settled =
+      by-table StepResult (λ (r : StepResult). r .outcome .number) (restRowsWith other) _ result (doneStep 0 (extendedWork (strings bytes lens)) (start (extended h (strings bytes lens)) stage v) []) _
+      (λ n. refusedStep n ended []) _ settled (rest-told other B tells) refl refl (λ n. refl)
+      (λ e. ap (λ (w : ℕ). stepped 0 0 w (begunState (longerHead h (strings bytes lens)) stage v) []) (rest-work other e)) (λ n e. refl)
+
+  extending : FirstHead (restTable h bytes lens ⊥) (extendHead h bytes lens) (headerBlocks lens) (longerHead h (strings bytes lens))
+  unfolding extendHead extended
+  extending =
+      by-table MakeResult (λ (r : MakeResult). r .outcome .number) (restRowsWith false) _ _ (madeHead (extendedWork (strings bytes lens)) (extended h (strings bytes lens))) _ refusedHead _ refl
+      (rest-told false ⊥ never) refl refl (λ n. refl)
+      (λ e. ap (λ (w : ℕ). madeHead w (longerHead h (strings bytes lens))) (rest-work false e)) (λ n e. refl)
+
+-- an opener's tag has 16 bytes, or 5 is due
+tagged : (tag : List ℕ) → Tells (not (eqb (length tag) 16)) (length tag ≡ 16 → ⊥)
+tagged tag = otherwise (equal (length tag) 16)
+
+-- ---- answers
 
 -- a refusal by its number
 refusalOf : ℕ → Refusal
@@ -326,38 +388,51 @@ outcome-tells : (a b : Answer) (w w′ : ℕ) → outcomeOf a w ≡ outcomeOf b 
 outcome-tells a b w w′ e = (answer-tells a b w w′ e, sym (outcome-work a w) ∙ ap (λ (o : Outcome). o .work) e ∙ outcome-work b w′)
 
 pub answers-or-first-refusal : First
-unfolding makeHead fitsHead extendHead beginSealer beginOpener beginSealerFrom beginOpenerFrom addStep turnStep writeStep closeStep feedStep sealNumber openNumber
+unfolding sealCall sealNumber openCall openNumber beginSealer beginOpener beginSealerFrom beginOpenerFrom
 answers-or-first-refusal =
     record {
+      numbers = λ w.
+          record {
+            ok = λ n. refl;
+            keyLength = refl;
+            headerCount = refl;
+            headerLengths = refl;
+            tooLong = refl;
+            sealedLength = refl;
+            outputShort = refl;
+            scratchShort = refl;
+            forged = refl;
+            state = refl;
+            emptyNonce = refl;
+            ringLength = refl;
+            headerPlan = refl;
+          };
+      outcomeTells = outcome-tells;
       sealing = sealing;
       opening = opening;
-      sealingFromC = λ key header input output scratch ad nonce. from-c _ nonce key output scratch _ refl refl (seal-numbered key header (aeadLens ad nonce) input output scratch);
-      openingFromC = λ key header input output scratch ad nonce. from-c _ nonce key output scratch _ refl refl (open-numbered key header (aeadLens ad nonce) input output scratch);
-      openingRing = λ keyLength ring bytes lens input output scratch.
-          by-ring keyLength ring bytes lens input output scratch [] refl refl refl (open-ring-case keyLength ring bytes lens input output scratch);
+      openingRing = λ keyLength ring bytes lens input output scratch. by-ring keyLength ring bytes lens input output scratch false ⊥ never (open-ring-case keyLength ring bytes lens input output scratch);
+      sealingFromC = λ key header input output scratch ad nonce.
+          by-seal key header (ad ∷ nonce ∷ []) input output scratch (eqb nonce 0) (nonce ≡ 0) (equal nonce 0) _
+          (from-c (listRows key header (ad ∷ nonce ∷ []) input output scratch (sealRows (length input) (length output) (length scratch))) nonce key output scratch
+          (sealedCall key header (ad ∷ nonce ∷ []) input output scratch) (λ n. refusedCall n output scratch) refl);
+      openingFromC = λ key header input output scratch ad nonce.
+          by-open key header (ad ∷ nonce ∷ []) input output scratch (eqb nonce 0) (nonce ≡ 0) (equal nonce 0) _
+          (from-c (listRows key header (ad ∷ nonce ∷ []) input output scratch (textRows key header (ad ∷ nonce ∷ []) input output scratch)) nonce key output scratch
+          (openedCall key header (ad ∷ nonce ∷ []) input output scratch) (refused key header (ad ∷ nonce ∷ []) input output scratch) refl);
       openingRingFromC = λ keyLength ring header input output scratch ad nonce.
-          by-ring keyLength ring header (aeadLens ad nonce) input output scratch (row 10 (eqb nonce 0) ∷ []) refl refl refl
-          (ring-case-from-c keyLength ring header input output scratch ad nonce);
-      sealingParts = λ key header input output scratch ad nonce. from-c-parts nonce key output scratch _ (seal-count key header (aeadLens ad nonce) input output scratch);
-      openingParts = λ key header input output scratch ad nonce. from-c-parts nonce key output scratch _ (omega (arith, open-count key header (aeadLens ad nonce) input output scratch));
+          by-ring keyLength ring header (ad ∷ nonce ∷ []) input output scratch (eqb nonce 0) (nonce ≡ 0) (equal nonce 0) (ring-case-from-c keyLength ring header input output scratch ad nonce);
+      sealingParts = λ key header input output scratch ad nonce. from-c-parts nonce key output scratch _ (seal-count key header (ad ∷ nonce ∷ []) input output scratch);
+      openingParts = λ key header input output scratch ad nonce. from-c-parts nonce key output scratch _ (omega (arith, open-count key header (ad ∷ nonce ∷ []) input output scratch));
       openingRingParts = λ keyLength ring header input output scratch ad nonce.
-          ring-parts keyLength ring header (aeadLens ad nonce) input output scratch (row 10 (eqb nonce 0) ∷ [])
+          ring-parts keyLength ring header (ad ∷ nonce ∷ []) input output scratch (row 10 (eqb nonce 0) ∷ [])
           (ring-case-from-c keyLength ring header input output scratch ad nonce);
       findingWorst = λ h k least outcome places blocks g. by-plan h k least g;
       findingWorstFromC = λ h k least places given g. by-plan h k least g;
-      makingHead = λ key bytes lens. by-head _ _ _ _ refl (header-work key bytes lens);
-      extendingHead = λ h bytes lens. by-head _ _ _ _ (rest-ordered h lens (length bytes)) (rest-work h bytes lens);
-      beginningSealer = λ key bytes lens. by-table _ _ _ _ _ _ _ _ refl (header-work key bytes lens);
-      beginningOpener = λ key bytes lens tag.
-          by-table _ _ _ _ _ _ _ _ refl (λ e. header-work key bytes lens (first-none (headerRows (length key) lens (length bytes)) (tagRows (length tag)) refl e .0));
-      beginningSealerFrom = λ h bytes lens. by-table _ _ _ _ _ _ _ _ (rest-ordered h lens (length bytes)) (rest-work h bytes lens);
-      beginningOpenerFrom = λ h bytes lens tag.
-          by-table _ _ _ _ _ _ _ _ (rest-tag-ordered h lens (length bytes) (length tag)) (λ e. rest-work h bytes lens (first-none (restRows h lens (length bytes)) (tagRows (length tag)) refl e .0));
-      adding = λ s piece. by-table _ _ _ _ _ _ _ _ refl (λ e. added-work s (length piece));
-      turning = λ s output. by-table _ _ _ _ _ _ _ _ refl (λ e. refl);
-      writing = λ s piece output. by-table _ _ _ _ _ _ _ _ refl (λ e. piece-work (s .written) (length piece));
-      closing = λ s. by-table _ _ _ _ _ _ _ _ refl (λ e. refl);
-      feeding = λ s piece output. by-table _ _ _ _ _ _ _ _ refl (λ e. ap₂ _+_ (piece-work (s .total) (length piece)) (added-work s (length piece)));
-      finishing = finishing;
-      outcomeTells = outcome-tells;
+      makingHead = making;
+      extendingHead = extending;
+      beginningSealer = λ key bytes lens. by-begin key bytes lens false ⊥ never 1 zeros _ refl;
+      beginningOpener = λ key bytes lens tag. by-begin key bytes lens (not (eqb (length tag) 16)) (length tag ≡ 16 → ⊥) (tagged tag) 3 tag _ refl;
+      beginningSealerFrom = λ h bytes lens. by-begin-from h bytes lens false ⊥ never 1 zeros _ refl;
+      beginningOpenerFrom = λ h bytes lens tag. by-begin-from h bytes lens (not (eqb (length tag) 16)) (length tag ≡ 16 → ⊥) (tagged tag) 3 tag _ refl;
+      calling = by-call;
     }

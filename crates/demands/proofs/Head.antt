@@ -24,21 +24,23 @@ use Rattle.head.specs.Head.{headOf, headOfWork, extended, extendedWork, fitsHea
 use Rattle.head.proofs.Laws.{head-lengths, extended-lengths, extended-head}
 use Rattle.stream.specs.State.{start}
 use Rattle.stream.specs.Steps.{StepResult, tagRows, beginBy, beginSealer, beginOpener, beginSealerFrom, beginOpenerFrom}
+use Rattle.demands.specs.Figures.{sum, headerBlocks}
 use Rattle.demands.specs.Head.{SameButWork, Split, Heads}
 use Rattle.demands.specs.Run.{Begin, sealer, opener, Start, undivided, divided, begunFrom, firstBytes, restBytes, begun}
 use Rattle.demands.specs.Third.{beginWork}
 use Rattle.demands.specs.Second.{Admits}
+use Rattle.demands.proofs.Figures.{total-sum, blocks-all, keyed, sums}
 use Rattle.demands.proofs.First.{answers-or-first-refusal}
 
 -- no refusal is due for an admitted key and list
 pub admitted : (key bytes lens : List ℕ) → Admits key bytes lens → first (headerRows (length key) lens (length bytes)) ≡ 0
-admitted key bytes lens a = simp (a .keyed, le-ltb 126 (length lens) (a .countFits), eq-eqb (total lens) (length bytes) (a .sums))
+admitted key bytes lens a = simp (keyed a, le-ltb 126 (length lens) (a .countFits), eq-eqb (total lens) (length bytes) (sums a))
 
 -- so its head is made
-pub made : (key bytes lens : List ℕ) → Admits key bytes lens → makeHead key bytes lens ≡ madeHead (2 + blocksOfAll lens) (headOf key (strings bytes lens))
+made : (key bytes lens : List ℕ) → Admits key bytes lens → makeHead key bytes lens ≡ madeHead (2 + headerBlocks lens) (headOf key (strings bytes lens))
 unfolding makeHead
 made key bytes lens a =
-    ap₂ (λ (n w : ℕ). settle n (madeHead w (headOf key (strings bytes lens))) refusedHead) (admitted key bytes lens a) (head-lengths bytes lens (omega (arith, a .sums)))
+    ap₂ (λ (n w : ℕ). settle n (madeHead w (headOf key (strings bytes lens))) refusedHead) (admitted key bytes lens a) (head-lengths bytes lens (omega (arith, sums a)) ∙ ap (λ (n : ℕ). 2 + n) (blocks-all lens))
 
 -- a begin that succeeds reports the blocks of its strings, and 2 where it makes L and the CMAC of the zero block
 pub begun-work : (key bytes lens : List ℕ) (start : Start) (begin : Begin) → begun key bytes lens start begin .outcome .number ≡ 0
@@ -56,8 +58,8 @@ module _ (key bytes lens more moreLens : List ℕ) (a : Admits key bytes lens) w
       sym
       (strings-append (bytes ++ more) lens moreLens
       ∙ ap₂ (λ (x : List (List ℕ)) (y : List ℕ). x ++ strings y moreLens)
-      (sym (strings-within (bytes ++ more) lens) ∙ ap (λ (l : List ℕ). strings l lens) (take-at bytes more (total lens) (sym (a .sums))))
-      (drop-at bytes more (total lens) (sym (a .sums))))
+      (sym (strings-within (bytes ++ more) lens) ∙ ap (λ (l : List ℕ). strings l lens) (take-at bytes more (total lens) (sym (sums a))))
+      (drop-at bytes more (total lens) (sym (sums a))))
 
   same-head : extended (headOf key (strings bytes lens)) (strings more moreLens) ≡ headOf key (strings (bytes ++ more) (lens ++ moreLens))
   same-head = extended-head key (strings bytes lens) (strings more moreLens) ∙ ap (headOf key) joined
@@ -68,17 +70,17 @@ module _ (key bytes lens more moreLens : List ℕ) (a : Admits key bytes lens) w
   same-number =
       let counted : length (strings bytes lens) + length moreLens ≡ length (lens ++ moreLens) = omega (arith, length-strings bytes lens, length-append lens moreLens) in
       let countFits : ltb 126 (length (strings bytes lens)) ≡ false = le-ltb 126 (length (strings bytes lens)) (omega (arith, length-strings bytes lens, a .countFits)) in
-      simp (halves (length key) (a .keyed) .half, countFits, a .keyed)
-      (ap₂ (λ (n : ℕ) (t : Bool). cond (ltb 126 n) 2 (cond (not t) 3 0)) counted sums)
+      simp (halves (length key) (keyed a) .half, countFits, keyed a)
+      (ap₂ (λ (n : ℕ) (t : Bool). cond (ltb 126 n) 2 (cond (not t) 3 0)) counted alike-sums)
     where
-      sum : total (lens ++ moreLens) ≡ length bytes + total moreLens
-      sum = total-append lens moreLens ∙ ap (λ (n : ℕ). n + total moreLens) (a .sums)
+      joint : total (lens ++ moreLens) ≡ length bytes + total moreLens
+      joint = total-append lens moreLens ∙ ap (λ (n : ℕ). n + total moreLens) (sums a)
 
-      sums : eqb (total moreLens) (length more) ≡ eqb (total (lens ++ moreLens)) (length (bytes ++ more))
-      sums =
+      alike-sums : eqb (total moreLens) (length more) ≡ eqb (total (lens ++ moreLens)) (length (bytes ++ more))
+      alike-sums =
           bool-ext (eqb (total moreLens) (length more)) (eqb (total (lens ++ moreLens)) (length (bytes ++ more)))
-          (λ e. eq-eqb (total (lens ++ moreLens)) (length (bytes ++ more)) (omega (arith, sum, length-append bytes more, eqb-true (total moreLens) (length more) e)))
-          (λ e. eq-eqb (total moreLens) (length more) (omega (arith, sum, length-append bytes more, eqb-true (total (lens ++ moreLens)) (length (bytes ++ more)) e)))
+          (λ e. eq-eqb (total (lens ++ moreLens)) (length (bytes ++ more)) (omega (arith, joint, length-append bytes more, eqb-true (total moreLens) (length more) e)))
+          (λ e. eq-eqb (total moreLens) (length more) (omega (arith, joint, length-append bytes more, eqb-true (total (lens ++ moreLens)) (length (bytes ++ more)) e)))
 
   -- begins that differ in their work alone
   same : (n w w′ : ℕ) (h : Head) (stage : ℕ) (v : List ℕ) → SameButWork (beginBy n w h stage v) (beginBy n w′ h stage v)
@@ -106,12 +108,12 @@ module _ (key bytes lens more moreLens : List ℕ) (a : Admits key bytes lens) w
       (same (first (headerRows (length key) (lens ++ moreLens) (length (bytes ++ more)) ++ tag)) w (headOfWork (strings (bytes ++ more) (lens ++ moreLens))) (headOf key (strings (bytes ++ more) (lens ++ moreLens))) 3 T)
 
   extends : total moreLens ≤ length more → first (headerRows (length key) (lens ++ moreLens) (length (bytes ++ more))) ≡ 0
-      → extendHead (makeHead key bytes lens .head) more moreLens ≡ madeHead (blocksOfAll moreLens) (headOf key (strings (bytes ++ more) (lens ++ moreLens)))
+      → extendHead (makeHead key bytes lens .head) more moreLens ≡ madeHead (headerBlocks moreLens) (headOf key (strings (bytes ++ more) (lens ++ moreLens)))
   unfolding extendHead
-  extends sums z =
+  extends fits z =
       ap (λ (r : MakeResult). extendHead (r .head) more moreLens) (made key bytes lens a)
       ∙ ap₂ (λ (n : ℕ) (g : Head). settle n (madeHead (extendedWork (strings more moreLens)) g) refusedHead) (same-number ∙ z) same-head
-      ∙ ap (λ (w : ℕ). madeHead w (headOf key (strings (bytes ++ more) (lens ++ moreLens)))) (extended-lengths more moreLens sums)
+      ∙ ap (λ (w : ℕ). madeHead w (headOf key (strings (bytes ++ more) (lens ++ moreLens)))) (extended-lengths more moreLens fits ∙ blocks-all moreLens)
 
 -- a list that is divided is what it is joined from
 module _ (key bytes lens : List ℕ) (a : Admits key bytes lens) (n : ℕ) where
@@ -121,20 +123,21 @@ module _ (key bytes lens : List ℕ) (a : Admits key bytes lens) (n : ℕ) where
       record {
         keyed = a .keyed;
         countFits = omega (arith, count, a .countFits);
-        sums = sym (length-take-le (total (take n lens)) bytes (omega (arith, total-take lens n, a .sums)));
+        sums = sym (length-take-le (sum (take n lens)) bytes (omega (arith, total-take lens n, total-sum (take n lens), sums a)));
       }
 
   -- whatever is said of the joined list
   whole : {A : Type 0} (f : List ℕ → List ℕ → A) → f ((firstBytes key bytes lens n) ++ restBytes key bytes lens n) (take n lens ++ drop n lens) ≡ f bytes lens
-  whole f = ap₂ f (take-append-drop (total (take n lens)) bytes) (take-append-drop n lens)
+  whole f = ap₂ f (take-append-drop (sum (take n lens)) bytes) (take-append-drop n lens)
 
   rest-sums : total (drop n lens) ≤ length (restBytes key bytes lens n)
   rest-sums =
       omega (
         arith,
-        length-drop (total (take n lens)) bytes,
+        length-drop (sum (take n lens)) bytes,
+        total-sum (take n lens),
         sym (total-append (take n lens) (drop n lens)) ∙ ap total (take-append-drop n lens),
-        a .sums,
+        sums a,
       )
 
   split : Split key bytes lens n
@@ -149,11 +152,14 @@ module _ (key bytes lens : List ℕ) (a : Admits key bytes lens) (n : ℕ) where
               begun-work key bytes lens (divided n) begin e,
               begun-work key bytes lens undivided begin (sym (begins begin .number) ∙ e),
               sym (blocks-append (take n lens) (drop n lens)) ∙ ap blocksOfAll (take-append-drop n lens),
+              blocks-all (take n lens),
+              blocks-all (drop n lens),
+              blocks-all lens,
             );
         extends =
             extends key (firstBytes key bytes lens n) (take n lens) (restBytes key bytes lens n) (drop n lens) front-admitted rest-sums
             (whole (λ b l. first (headerRows (length key) l (length b))) ∙ admitted key bytes lens a)
-            ∙ ap (madeHead (blocksOfAll (drop n lens))) (whole (λ b l. headOf key (strings b l)) ∙ sym (ap (λ (r : MakeResult). r .head) (made key bytes lens a)));
+            ∙ ap (madeHead (headerBlocks (drop n lens))) (whole (λ b l. headOf key (strings b l)) ∙ sym (ap (λ (r : MakeResult). r .head) (made key bytes lens a)));
       }
     where
       begins : (begin : Begin) → SameButWork (begun key bytes lens (divided n) begin) (begun key bytes lens undivided begin)

@@ -1,13 +1,17 @@
+pub mod Figures
+pub mod Table
 pub mod Cases
 pub mod Siv
 pub mod Whole
 pub mod Second
+pub mod Plans
 pub mod Slots
 pub mod Parts
 pub mod First
 pub mod Ring
 pub mod Head
 pub mod Pieces
+pub mod Given
 pub mod Steps
 pub mod Third
 pub mod Tail

@@ -6,6 +6,7 @@ use mathlib.Core.Bool.{Bool, true, false, not, cond, _||_}
 use mathlib.Core.List.{List, [], _++_}
 use Prim.Native.Nat.{ℕ, zero, suc, _+_, _-_, _*_, _/_, _%_, _≤_, _<_}
 use native.Mathlib.Decide.{decLt}
+use native.Mathlib.Nat.{zero-add}
 use native.Mathlib.Omega.{arith}
 use lib.Dec.{eqb}
 use lib.ListN.{length, take, drop, replicate, length-append, length-take, length-drop, length-replicate}
@@ -15,12 +16,11 @@ use Rattle.octets.specs.Octets.{put, allZero}
 use Rattle.octets.proofs.Strings.{length-put, take-put, drop-put}
 use Rattle.aes.specs.Aes.{aes}
 use Rattle.aes.specs.Cipher.{cipher}
-use Rattle.aes.specs.KeyExpansion.{roundKeys}
+use Rattle.aes.specs.KeyExpansion.{keyExpansion, roundKeys}
 use Rattle.aes.proofs.Widths.{length-cipher}
 use Rattle.cmac.specs.declared.Subkeys.{Subkeys}
 use Rattle.cmac.specs.Cmac.{zeros, chain, subkeys, zeroCipher}
 use Rattle.cmac.proofs.Laws.{chain-work, chain-front, chain-add}
-use Rattle.header.specs.Blocks.{sixteenths, blocksOf}
 use Rattle.s2v.specs.S2v.{tailLength, headerResult, tagFrom, s2v}
 use Rattle.s2v.proofs.Laws.{tail-short, tail-long, Tail, tail, tag-tail, length-headerResult}
 use Rattle.counter.specs.Counter.{initialCounter, counterBlock}
@@ -36,7 +36,8 @@ use Rattle.stream.specs.declared.Stream.{Stream}
 use Rattle.stream.specs.State.{start, writtenLimit, keptFits, fits, usedTail, stateWith, added, addedWork, tagOfState, tagOfStateWork, streamedAt, keptAt}
 use Rattle.tail.specs.Tail.{tailOf, passedBlocks}
 use Rattle.tail.proofs.Laws.{Cut, cut, passed-more}
-use Rattle.demands.specs.Model.{chained}
+use Rattle.demands.specs.Figures.{tailBytes, chained, sixteenths, blocks}
+use Rattle.demands.specs.State.{keyBytes, preparedHead, stateOf}
 
 with-same : (s : Stream) {c c′ : List ℕ} {n n′ : ℕ} {t t′ : List ℕ} → c ≡ c′ → n ≡ n′ → t ≡ t′ → stateWith s c n (tailLength n) t ≡ stateWith s c′ n′ (tailLength n′) t′
 with-same s {c} {c′} {n} {n′} {t} {t′} p q r =
@@ -72,7 +73,7 @@ unfolding pieceWork
 piece-work place n = stream-work _
 
 -- the chain has taken the blocks before the tail, and the tag takes the others
-passed-chained : (n : ℕ) → passedBlocks n ≡ chained n
+pub passed-chained : (n : ℕ) → passedBlocks n ≡ chained n
 unfolding passedBlocks
 passed-chained n = go (decLt n 16)
   where
@@ -84,26 +85,44 @@ pub added-work : (s : Stream) (n : ℕ) → addedWork s n ≡ chained (s .total 
 unfolding addedWork
 added-work s n = chain-work _ ∙ ap₂ _-_ (passed-chained (s .total + n)) (passed-chained (s .total))
 
-left : (n : ℕ) → blocksOf (tailLength n) ≡ blocksOf n - chained n
+left : (n : ℕ) → blocks (tailLength n) ≡ blocks n - chained n
 left n = go (decLt n 16)
   where
-    go : Dec (n < 16) → blocksOf (tailLength n) ≡ blocksOf n - chained n
+    go : Dec (n < 16) → blocks (tailLength n) ≡ blocks n - chained n
     go (yes h) = let e : tailLength n ≡ n = tail-short n h in omega arith
     go (no h) = let e : tailLength n ≡ 16 + n % 16 = tail-long n (omega arith) in omega arith
 
-pub tag-of-state-work : (s : Stream) → length (s .d) ≡ 16 → length (s .tail) ≡ 31 → tagOfStateWork s ≡ blocksOf (s .total) - chained (s .total)
+pub tag-of-state-work : (s : Stream) → length (s .d) ≡ 16 → length (s .tail) ≡ 31 → tagOfStateWork s ≡ blocks (s .total) - chained (s .total)
 unfolding tagOfStateWork
 tag-of-state-work s d t =
     let used : length (usedTail s) ≡ tailLength (s .total) = simp length-take (omega (arith, t, tail (s .total) .short)) in
-    tag-lengths (s .d) (usedTail s) d ∙ ap blocksOf used ∙ left (s .total)
+    tag-lengths (s .d) (usedTail s) d ∙ ap blocks used ∙ left (s .total)
+
+-- ---- in figures
+
+drop-zeros : (n m : ℕ) → drop n (replicate {A = ℕ} m 0) ≡ replicate (m - n) 0
+drop-zeros zero m = let e : m ≡ m - 0 = omega arith in ap (λ (k : ℕ). replicate k 0) e
+drop-zeros (suc n) zero = let e : 0 ≡ 0 - suc n = omega arith in ap (λ (k : ℕ). replicate k 0) e
+drop-zeros (suc n) (suc m) = let e : m - n ≡ suc m - suc n = omega arith in drop-zeros n m ∙ ap (λ (k : ℕ). replicate k 0) e
+
+-- a string at the front of zeros
+pub front-zeros : (m : ℕ) (s : List ℕ) → put (replicate m 0) 0 s ≡ s ++ replicate (m - length s) 0
+unfolding put
+front-zeros m s = ap (λ (l : List ℕ). s ++ l) (drop-zeros (0 + length s) m ∙ ap (λ (k : ℕ). replicate (m - k) 0) (zero-add (length s)))
+
+key-bytes : (half : List ℕ) → roundKeys half ≡ keyBytes half
+unfolding roundKeys
+key-bytes half = front-zeros 240 (keyExpansion half)
+
+-- ---- the state
 
 module _ (key : List ℕ) (ss : List (List ℕ)) where
   E : List ℕ → List ℕ
   E = cipher (length key / 2) (roundKeys (macKey key))
 
-  -- the state in a stage, with a tag, a kept block, a count of written bytes and the plaintext P
-  abbrev pub stateOf : ℕ → List ℕ → List ℕ → ℕ → List ℕ → Stream
-  stateOf stage v kept written P =
+  -- the state in a stage, with a tag, a kept block, a count of written bytes and the plaintext P, as the calls build it
+  abbrev pub builtOf : ℕ → List ℕ → List ℕ → ℕ → List ℕ → Stream
+  builtOf stage v kept written P =
       record {
         stage = stage;
         width = length key / 2;
@@ -123,15 +142,15 @@ module _ (key : List ℕ) (ss : List (List ℕ)) where
   -- the states that the model knows: while A is added;
   -- while W is written of it; and while P is what was fed, deciphered
   abbrev pub addingState : List ℕ → Stream
-  addingState A = stateOf 1 zeros zeros 0 A
+  addingState A = builtOf 1 zeros zeros 0 A
 
   abbrev pub writingState : List ℕ → List ℕ → Stream
-  writingState A W = stateOf 2 (tagOf key ss A) (begunBlock (aes (ctrKey key)) (tagOf key ss A) (length W)) (length W) A
+  writingState A W = builtOf 2 (tagOf key ss A) (begunBlock (aes (ctrKey key)) (tagOf key ss A) (length W)) (length W) A
 
   abbrev pub feedingState : List ℕ → List ℕ → Stream
-  feedingState T P = stateOf 3 T (begunBlock (aes (ctrKey key)) T (length P)) 0 P
+  feedingState T P = builtOf 3 T (begunBlock (aes (ctrKey key)) T (length P)) 0 P
 
-  pub begin-state : (stage : ℕ) (v : List ℕ) → start (headOf key ss) stage v ≡ stateOf stage v zeros 0 []
+  pub begin-state : (stage : ℕ) (v : List ℕ) → start (headOf key ss) stage v ≡ builtOf stage v zeros 0 []
   unfolding headOf chain passedBlocks tailLength put
   begin-state stage v = refl
 
@@ -147,14 +166,14 @@ module _ (key : List ℕ) (ss : List (List ℕ)) where
     room = let c : Cut (length A) = cut (length A) in omega (arith, long, length-replicate {A = ℕ} 31 0)
 
     -- the tail's used bytes are the plaintext's last
-    tail-state : usedTail (stateOf stage v kept written A) ≡ drop before A
+    tail-state : usedTail (builtOf stage v kept written A) ≡ drop before A
     unfolding before
     tail-state =
         let count : tailLength (length A) ≡ 0 + length (drop before A) = omega (arith, long) in
         ap (λ (n : ℕ). take n (tailOf (drop before A))) count ∙ take-put (replicate 31 0) 0 (drop before A) room
 
     -- a piece more
-    pub join : (B : List ℕ) → added (stateOf stage v kept written A) B ≡ stateOf stage v kept written (A ++ B)
+    pub join : (B : List ℕ) → added (builtOf stage v kept written A) B ≡ builtOf stage v kept written (A ++ B)
     unfolding added E before
     join B =
         let p : ℕ = passedBlocks (length A) in
@@ -163,15 +182,15 @@ module _ (key : List ℕ) (ss : List (List ℕ)) where
         let total : length A + length B ≡ length (A ++ B) = sym (length-append A B) in
         let more : p + n ≡ passedBlocks (length A + length B) = omega (arith, passed-more (length A) (length B)) in
         let blocks : p + n ≡ passedBlocks (length (A ++ B)) = more ∙ ap passedBlocks total in
-        let text : usedTail (stateOf stage v kept written A) ++ B ≡ drop (16 * p) (A ++ B) = ap (λ (l : List ℕ). l ++ B) tail-state ∙ sym (drop-append-le (16 * p) A B (omega arith)) in
+        let text : usedTail (builtOf stage v kept written A) ++ B ≡ drop (16 * p) (A ++ B) = ap (λ (l : List ℕ). l ++ B) tail-state ∙ sym (drop-append-le (16 * p) A B (omega arith)) in
         let place : 16 * p + 16 * n ≡ 16 * passedBlocks (length (A ++ B)) = omega arith in
-        with-same (stateOf stage v kept written A)
+        with-same (builtOf stage v kept written A)
         (ap₂ (λ (x t : List ℕ). chain E x t n) (sym (chain-front E zeros A B p (omega arith))) text ∙ sym (chain-add E zeros (A ++ B) p n) ∙ ap (chain E zeros (A ++ B)) blocks)
         total
         (ap (λ (t : List ℕ). tailOf (drop (16 * n) t)) text
         ∙ ap tailOf (drop-drop (16 * n) (16 * p) (A ++ B) ∙ ap (λ (k : ℕ). drop k (A ++ B)) place))
 
-    unused : allZero (drop (tailLength (length A)) (stateOf stage v kept written A .tail)) ≡ true
+    unused : allZero (drop (tailLength (length A)) (builtOf stage v kept written A .tail)) ≡ true
     unfolding before
     unused =
         let count : tailLength (length A) ≡ 0 + length (drop before A) = omega (arith, long) in
@@ -185,7 +204,7 @@ module _ (key : List ℕ) (ss : List (List ℕ)) where
 
     -- the state is one for the calls that want its stage
     pub fits-state : (stage : ℕ) (v kept : List ℕ) (written : ℕ) (P : List ℕ) → length P ≤ limit → written ≤ writtenLimit stage (length P)
-        → keptFits stage (stateOf stage v kept written P) ≡ true → fits stage (stateOf stage v kept written P) ≡ true
+        → keptFits stage (builtOf stage v kept written P) ≡ true → fits stage (builtOf stage v kept written P) ≡ true
     unfolding fits
     fits-state stage v kept written P total most whole =
         simp (
@@ -199,7 +218,7 @@ module _ (key : List ℕ) (ss : List (List ℕ)) where
         (unused stage v kept written P)
 
     -- V of the state is V of its plaintext
-    pub tag-state : (stage : ℕ) (v kept : List ℕ) (written : ℕ) (P : List ℕ) → tagOfState (stateOf stage v kept written P) ≡ tagOf key ss P
+    pub tag-state : (stage : ℕ) (v kept : List ℕ) (written : ℕ) (P : List ℕ) → tagOfState (builtOf stage v kept written P) ≡ tagOf key ss P
     unfolding tagOfState tagOf s2v passedBlocks before E
     tag-state stage v kept written P =
         let at : ℕ = length P - tailLength (length P) in
@@ -213,11 +232,54 @@ module _ (key : List ℕ) (ss : List (List ℕ)) where
         ∙ ap (λ (F : List ℕ → List ℕ). s2v F ss P) (aes-cipher (macKey key) front refl)
 
     -- its work is what the chain leaves of the plaintext's blocks
-    pub tag-state-work : (stage : ℕ) (v kept : List ℕ) (written : ℕ) (P : List ℕ) → tagOfStateWork (stateOf stage v kept written P) ≡ blocksOf (length P) - chained (length P)
+    pub tag-state-work : (stage : ℕ) (v kept : List ℕ) (written : ℕ) (P : List ℕ) → tagOfStateWork (builtOf stage v kept written P) ≡ blocks (length P) - chained (length P)
     unfolding before E
     tag-state-work stage v kept written P =
-        tag-of-state-work (stateOf stage v kept written P) (length-headerResult E (length-cipher _ _) (subkeys (zeroCipher E)) ss)
+        tag-of-state-work (builtOf stage v kept written P) (length-headerResult E (length-cipher _ _) (subkeys (zeroCipher E)) ss)
         (length-put (replicate 31 0) 0 (drop (16 * passedBlocks (length P)) P) (room stage v kept written P))
+
+    -- the state's cipher for CMAC is AES under the key's first half
+    mac-cipher : cipher (length key / 2) (roundKeys (macKey key)) ≡ aes (macKey key)
+    mac-cipher = aes-cipher (macKey key) (simp length-take (omega arith)) refl
+
+    -- a head in figures
+    pub head-figures : headOf key ss ≡ preparedHead key ss
+    unfolding headOf
+    head-figures =
+        λ i.
+        record {
+          width = length key / 2;
+          «mac_keys» = key-bytes (macKey key) i;
+          «ctr_keys» = key-bytes (ctrKey key) i;
+          l = zeroCipher (mac-cipher i);
+          d = headerResult (mac-cipher i) (subkeys (zeroCipher (mac-cipher i))) ss;
+          count = length ss;
+        }
+
+    -- and the state
+    pub state-figures : (stage : ℕ) (v kept : List ℕ) (written : ℕ) (P : List ℕ) → builtOf stage v kept written P ≡ stateOf key ss stage v kept written P
+    unfolding tailLength before
+    state-figures stage v kept written P =
+        let n = passed-chained (length P) in
+        let tail : tailOf (drop (16 * passedBlocks (length P)) P) ≡ drop (16 * chained (length P)) P ++ replicate (31 - tailBytes (length P)) 0 =
+        front-zeros 31 (drop (16 * passedBlocks (length P)) P)
+        ∙ ap₂ (λ (m k : ℕ). drop (16 * m) P ++ replicate (31 - k) 0) n (long stage v kept written P) in
+        λ i.
+        record {
+          stage = stage;
+          width = length key / 2;
+          «mac_keys» = key-bytes (macKey key) i;
+          «ctr_keys» = key-bytes (ctrKey key) i;
+          l = zeroCipher (mac-cipher i);
+          d = headerResult (mac-cipher i) (subkeys (zeroCipher (mac-cipher i))) ss;
+          chain = chain (mac-cipher i) zeros P (n i);
+          v = v;
+          kept = kept;
+          total = length P;
+          written = written;
+          «tail_len» = tailLength (length P);
+          tail = tail i;
+        }
 
     -- the state's cipher for the key stream is AES under the key's second half
     stream-cipher : cipher (length key / 2) (roundKeys (ctrKey key)) ≡ aes (ctrKey key)
@@ -225,14 +287,14 @@ module _ (key : List ℕ) (ss : List (List ℕ)) where
 
     -- with the key stream's own block kept, a piece is xored with the key stream of its tag
     pub stream-state : (stage : ℕ) (v : List ℕ) (written : ℕ) (P : List ℕ) (place : ℕ) (s : List ℕ)
-        → streamedAt (stateOf stage v (begunBlock (aes (ctrKey key)) v place) written P) place s ≡ xorStream (aes (ctrKey key)) v place s
+        → streamedAt (builtOf stage v (begunBlock (aes (ctrKey key)) v place) written P) place s ≡ xorStream (aes (ctrKey key)) v place s
     unfolding streamedAt
     stream-state stage v written P place s =
         ap (λ (F : List ℕ → List ℕ). xorPiece F v (begunBlock (aes (ctrKey key)) v place) place s) stream-cipher ∙ xorPiece-own (aes (ctrKey key)) (aes-sized (ctrKey key)) v place s
 
     -- and its own block is kept again
     pub kept-state : (stage : ℕ) (v : List ℕ) (written : ℕ) (P : List ℕ) (place n : ℕ)
-        → keptAt (stateOf stage v (begunBlock (aes (ctrKey key)) v place) written P) place n ≡ begunBlock (aes (ctrKey key)) v (place + n)
+        → keptAt (builtOf stage v (begunBlock (aes (ctrKey key)) v place) written P) place n ≡ begunBlock (aes (ctrKey key)) v (place + n)
     unfolding keptAt
     kept-state stage v written P place n =
         ap (λ (F : List ℕ → List ℕ). keptAfter F v (begunBlock (aes (ctrKey key)) v place) place n) stream-cipher ∙ keptAfter-own (aes (ctrKey key)) (aes-sized (ctrKey key)) v place n

@@ -2,28 +2,32 @@
 -- Assumes nothing.
 use mathlib.Core.Path.{_≡_, refl, ap, ap₂, sym, subst, _∙_}
 use mathlib.Core.Bool.{Bool, true, false, false≢true, cond, and-false}
-use mathlib.Core.List.{List}
-use Prim.Native.Nat.{ℕ, _+_, _-_, _*_, _≤_, _<_}
+use mathlib.Core.List.{List, [], _∷_}
+use Prim.Native.Nat.{ℕ, zero, suc, _+_, _-_, _*_, _≤_, _<_, max}
 use native.Mathlib.Decide.{decLe}
-use native.Mathlib.Nat.{zero-add, zero-mul}
+use native.Mathlib.Nat.{zero-add, zero-mul, suc-add, add-suc, add-zero}
 use native.Mathlib.Omega.{arith}
-use lib.Dec.{eqb}
+use lib.Dec.{eqb, ltb}
 use lib.ListN.{length, take, drop}
 use lib.Seq.{take-length}
-use borrow.Author.Tests.{eqb-true, eq-eqb, ne-eqb}
-use Rattle.header.specs.Header.{total, strings}
+use borrow.Author.Tests.{eqb-true, eq-eqb, ne-eqb, lt-ltb, le-ltb}
+use Rattle.header.specs.Header.{strings}
 use Rattle.answers.specs.Answer.{Outcome, first}
-use Rattle.whole.specs.Calls.{isKeyLength, limit, scratchNeed, openNumber, openCall}
+use Rattle.whole.specs.Calls.{isKeyLength, openNumber, openCall}
 use Rattle.whole.specs.declared.Found.{Found}
-use Rattle.whole.specs.Ring.{isRing, slotCount, slotKey, ringRows, triedWork, RingResult, openSlot, opensAt, workAt, openSlotWith, openRing}
-use Rattle.whole.specs.Work.{blockWork}
-use Rattle.whole.proofs.Ring.{key-length-some, whole-ring, slot-keyed, Chosen, found, none, chosen-within, RingCase, tries, refuses, open-ring-case, ring-work}
-use Rattle.kinphlor.specs.Interface.{aeadLens, emptyNonce, fromC, openFromC, emptyNonceRing, openRingFromC}
-use Rattle.demands.specs.Ring.{IsRing, Opens, BySlot, SealsUnder, ThirdRing, Ring}
+use Rattle.whole.specs.Ring.{isRing, slotCount, slotKey, ringRows, trySlots, triedWork, RingResult, openSlot, opensAt, workAt, openSlotWith, openRing}
+use Rattle.whole.proofs.Ring.{key-length-some, whole-ring, slot-keyed, Chosen, found, none, chosen-within, chosen-tried, RingCase, tries, refuses, open-ring-case, ring-work}
+use Rattle.kinphlor.specs.Interface.{emptyNonce, fromC, openFromC, emptyNonceRing, openRingFromC}
+use Rattle.demands.specs.Figures.{IsKeyLength, sum, wholeWork}
+use Rattle.demands.specs.Ring.{IsRing, Opens, worksOf, BySlot, SealsUnder, ThirdRing, Ring}
 use Rattle.demands.specs.Second.{Admits}
 use Rattle.demands.specs.Whole.{ThirdWhole}
+use Rattle.demands.proofs.Figures.{when, key-length, work-all}
 use Rattle.demands.proofs.Siv.{length-sealed}
 use Rattle.demands.proofs.Whole.{judged, accepts-the-sealed}
+
+is-key : (n : ℕ) → IsKeyLength n → isKeyLength n ≡ true
+is-key n k = when (key-length n) k
 
 -- what the ring's call comes to with the slot given, of so many
 abbrev given : ℕ → ℕ → List ℕ → List ℕ → List ℕ → List ℕ → List ℕ → List ℕ → ℕ → RingResult
@@ -43,19 +47,54 @@ module _ (keyLength slots : ℕ) (ring bytes lens input output scratch : List �
   by-given P f = go (open-ring-case keyLength ring bytes lens input output scratch)
     where
       is : (isRing keyLength (length ring) ≡ true) × (slotCount keyLength (length ring) ≡ slots)
-      is = whole-ring keyLength slots (length ring) (key-length-some keyLength (r .keyed)) (r .whole) (r .some) (r .most)
+      is = whole-ring keyLength slots (length ring) (key-length-some keyLength (is-key keyLength (r .keyed))) (r .whole) (r .some) (r .most)
 
       go : {result : RingResult} → RingCase keyLength ring bytes lens input output scratch (first (ringRows keyLength (length ring))) result → P result
       go (tries {s} z g) =
           subst P (ap (λ (n : ℕ). given keyLength n ring bytes lens input output scratch s) (sym (is .1))) (f s (subst (λ (n : ℕ). Chosen (opensAt keyLength ring bytes lens input output scratch) n s) (is .1) g))
-      go (refuses z) = absurd (z (simp (r .keyed, is .0)))
+      go (refuses z) = absurd (z (simp (is-key keyLength (r .keyed), is .0)))
 
 -- ---- the slot
 
 module _ (keyLength slots : ℕ) (ring bytes lens input output scratch : List ℕ) where
+  -- trying n slots from i on, after the works of those before, ends with the works of all that were tried
+  tried-works : (i before n : ℕ) → before ≡ worksOf keyLength slots ring bytes lens input output scratch i
+      → let found = trySlots (opensAt keyLength ring bytes lens input output scratch) (workAt keyLength ring bytes lens input output scratch) i before n in
+      found .work ≡ worksOf keyLength slots ring bytes lens input output scratch (found .slot + cond (ltb (found .slot) (i + n)) 1 0)
+  tried-works i before zero e =
+      e
+      ∙ ap (worksOf keyLength slots ring bytes lens input output scratch)
+      (sym (add-zero i) ∙ ap (λ (t : Bool). i + cond t 1 0) (sym (le-ltb i (i + 0) (omega arith))))
+  tried-works i before (suc n) e =
+      go (opensAt keyLength ring bytes lens input output scratch i)
+      (tried-works (suc i) (before + workAt keyLength ring bytes lens input output scratch i) n (ap (λ (w : ℕ). w + workAt keyLength ring bytes lens input output scratch i) e))
+    where
+      rest : Found
+      rest = trySlots (opensAt keyLength ring bytes lens input output scratch) (workAt keyLength ring bytes lens input output scratch) (suc i) (before + workAt keyLength ring bytes lens input output scratch i) n
+
+      go : (t : Bool) → rest .work ≡ worksOf keyLength slots ring bytes lens input output scratch (rest .slot + cond (ltb (rest .slot) (suc i + n)) 1 0)
+          → let found = cond t (record { slot = i; work = before + workAt keyLength ring bytes lens input output scratch i }) rest in
+          found .work ≡ worksOf keyLength slots ring bytes lens input output scratch (found .slot + cond (ltb (found .slot) (i + suc n)) 1 0)
+      go true ih =
+          ap (λ (w : ℕ). w + workAt keyLength ring bytes lens input output scratch i) e
+          ∙ ap (worksOf keyLength slots ring bytes lens input output scratch)
+          (sym (add-suc i 0 ∙ ap suc (add-zero i)) ∙ ap (λ (t : Bool). i + cond t 1 0) (sym (lt-ltb i (i + suc n) (omega arith))))
+      go false ih = ih ∙ ap (λ (m : ℕ). worksOf keyLength slots ring bytes lens input output scratch (rest .slot + cond (ltb (rest .slot) m) 1 0)) (suc-add i n ∙ sym (add-suc i n))
+
   by-slot : 1 ≤ slots → (s : ℕ) → Chosen (opensAt keyLength ring bytes lens input output scratch) slots s
       → BySlot keyLength slots ring bytes lens input output scratch (given keyLength slots ring bytes lens input output scratch s)
-  by-slot some s g = record { within = chosen-within _ slots some g; single = refl; smallest = smallest g; otherwise = otherwise g }
+  by-slot some s g =
+      record {
+        within = chosen-within _ slots some g;
+        number = refl;
+        count = refl;
+        work =
+            tried-works 0 0 slots refl
+            ∙ ap (worksOf keyLength slots ring bytes lens input output scratch) (sym (chosen-tried (opensAt keyLength ring bytes lens input output scratch) slots (workAt keyLength ring bytes lens input output scratch) some g));
+        buffers = (refl, refl);
+        smallest = smallest g;
+        otherwise = otherwise g;
+      }
     where
       -- a slot that opens does not fail the test
       opens-not : {i : ℕ} → Opens keyLength slots ring bytes lens input output scratch i → opensAt keyLength ring bytes lens input output scratch i ≡ false → ⊥
@@ -99,7 +138,7 @@ module _ (key bytes lens input output scratch : List ℕ) where
     where
       go : (t : Bool) → isKeyLength (length key) ≡ t → openRing (length key) key bytes lens input output scratch ≡ record { slot = 0; call = openCall key bytes lens input output scratch }
       go true k =
-          by-given (length key) 1 key bytes lens input output scratch (record { keyed = k; whole = omega arith; some = omega arith; most = omega arith })
+          by-given (length key) 1 key bytes lens input output scratch (record { keyed = key-length (length key) .holds k; whole = omega arith; some = omega arith; most = omega arith })
           (λ r. r ≡ record { slot = 0; call = openCall key bytes lens input output scratch })
           (λ s g.
           let at : s ≡ 0 = omega (arith, chosen-within _ 1 (omega arith) g) in
@@ -111,7 +150,7 @@ module _ (key bytes lens input output scratch : List ℕ) where
 -- ---- the C interface
 
 from-c : (keyLength : ℕ) (ring header input output scratch : List ℕ) (ad nonce : ℕ) → (nonce ≡ 0 → ⊥)
-    → openRingFromC keyLength ring header ad nonce input output scratch ≡ openRing keyLength ring header (aeadLens ad nonce) input output scratch
+    → openRingFromC keyLength ring header ad nonce input output scratch ≡ openRing keyLength ring header (ad ∷ nonce ∷ []) input output scratch
 unfolding openRingFromC emptyNonceRing
 from-c keyLength ring header input output scratch ad nonce n = simp (ne-eqb nonce 0 n, and-false)
 
@@ -120,8 +159,8 @@ one-key-from-c : (key header input output scratch : List ℕ) (ad nonce : ℕ)
 unfolding openRingFromC emptyNonceRing fromC emptyNonce
 one-key-from-c key header input output scratch ad nonce = go (isKeyLength (length key)) refl (eqb nonce 0) refl
   where
-    same : openRing (length key) key header (aeadLens ad nonce) input output scratch ≡ record { slot = 0; call = openCall key header (aeadLens ad nonce) input output scratch }
-    same = one-key key header (aeadLens ad nonce) input output scratch
+    same : openRing (length key) key header (ad ∷ nonce ∷ []) input output scratch ≡ record { slot = 0; call = openCall key header (ad ∷ nonce ∷ []) input output scratch }
+    same = one-key key header (ad ∷ nonce ∷ []) input output scratch
 
     -- a key is a ring of one
     ring : isKeyLength (length key) ≡ true → isRing (length key) (length key) ≡ true
@@ -135,10 +174,10 @@ one-key-from-c key header input output scratch ad nonce = go (isKeyLength (lengt
 
 -- ---- the third demand
 
-module _ (keyLength slots : ℕ) (ring bytes lens y output scratch : List ℕ) (r : IsRing keyLength slots ring) (countFits : length lens ≤ 126) (sums : total lens ≡ length bytes)
-    (outputFits : length y - 16 ≤ length output) (scratchFits : scratchNeed (length y - 16) ≤ length scratch) where
+module _ (keyLength slots : ℕ) (ring bytes lens y output scratch : List ℕ) (r : IsRing keyLength slots ring) (countFits : length lens ≤ 126) (sums : sum lens ≡ length bytes)
+    (outputFits : length y - 16 ≤ length output) (scratchFits : max (length y - 16) 16 ≤ length scratch) where
   admits : (i : ℕ) → i < slots → Admits (slotKey keyLength ring i) bytes lens
-  admits i h = record { keyed = slot-keyed keyLength slots ring i (r .keyed) (r .whole) h; countFits = countFits; sums = sums }
+  admits i h = record { keyed = key-length _ .holds (slot-keyed keyLength slots ring i (is-key keyLength (r .keyed)) (r .whole) h); countFits = countFits; sums = sums }
 
   -- the third demand for each slot's key
   by-key : (i : ℕ) → i < slots → ThirdWhole (slotKey keyLength ring i) bytes lens y output scratch
@@ -168,19 +207,22 @@ module _ (keyLength slots : ℕ) (ring bytes lens y output scratch : List ℕ) (
     tried : ℕ
     tried = triedWork (opensAt keyLength ring bytes lens y output scratch) (workAt keyLength ring bytes lens y output scratch) 0 slots
 
-    work : 16 ≤ length y → length y ≤ limit + 16 → tried ≡ cond (opensAt keyLength ring bytes lens y output scratch s) (s + 1) slots * blockWork lens (length y - 16)
+    work : 16 ≤ length y → length y ≤ 1048592 → tried ≡ cond (opensAt keyLength ring bytes lens y output scratch s) (s + 1) slots * wholeWork lens (length y - 16)
     unfolding tried
     work tagged limited =
         subst
         (λ (n : ℕ). Chosen (opensAt keyLength ring bytes lens y output scratch) n s
         → triedWork (opensAt keyLength ring bytes lens y output scratch) (workAt keyLength ring bytes lens y output scratch) 0 n
-        ≡ cond (opensAt keyLength ring bytes lens y output scratch s) (s + 1) n * blockWork lens (length y - 16))
+        ≡ cond (opensAt keyLength ring bytes lens y output scratch s) (s + 1) n * wholeWork lens (length y - 16))
         (is .1)
-        (λ c. ring-work keyLength ring bytes lens y output scratch (simp (r .keyed, is .0)) c (judged (slotKey keyLength ring s) bytes lens y output scratch (admits s within) outputFits scratchFits tagged limited))
+        (λ c.
+        ring-work keyLength ring bytes lens y output scratch (simp (is-key keyLength (r .keyed), is .0)) c
+        (judged (slotKey keyLength ring s) bytes lens y output scratch (admits s within) outputFits scratchFits tagged limited)
+        ∙ ap (λ (w : ℕ). cond (opensAt keyLength ring bytes lens y output scratch s) (s + 1) (slotCount keyLength (length ring)) * w) (work-all lens (length y - 16)))
         g
       where
         is : (isRing keyLength (length ring) ≡ true) × (slotCount keyLength (length ring) ≡ slots)
-        is = whole-ring keyLength slots (length ring) (key-length-some keyLength (r .keyed)) (r .whole) (r .some) (r .most)
+        is = whole-ring keyLength slots (length ring) (key-length-some keyLength (is-key keyLength (r .keyed))) (r .whole) (r .some) (r .most)
 
     -- the outcome of the slot given, with that work
     outcome : {o : Outcome} {w : ℕ} → openSlot keyLength ring bytes lens y output scratch s .outcome ≡ o → tried ≡ w
@@ -197,14 +239,14 @@ module _ (keyLength slots : ℕ) (ring bytes lens y output scratch : List ℕ) (
               let gives = by-key s within .accepted P (subst (λ (j : ℕ). SealsUnder keyLength slots ring bytes lens y j P) (sym at) p .1) in
               let long : length y ≡ length P + 16 = ap length (sym (p .1 .1)) ∙ length-sealed (slotKey keyLength ring i) (strings bytes lens) P in
               let count : length y - 16 ≡ length P = omega arith in
-              let all = work (omega arith) (omega (arith, p .1 .0)) ∙ ap (λ (t : Bool). cond t (s + 1) slots * blockWork lens (length y - 16)) (eq-eqb _ 0 (ap (λ (o : Outcome). o .number) (gives .0))) in
-              ((outcome (gives .0) (all ∙ ap₂ (λ (j n : ℕ). (j + 1) * blockWork lens n) at count), gives .1), at);
+              let all = work (omega arith) (omega (arith, p .1 .0)) ∙ ap (λ (t : Bool). cond t (s + 1) slots * wholeWork lens (length y - 16)) (eq-eqb _ 0 (ap (λ (o : Outcome). o .number) (gives .0))) in
+              ((outcome (gives .0) (all ∙ ap₂ (λ (j n : ℕ). (j + 1) * wholeWork lens n) at count), gives .1), at);
           opens = λ i P p. smallest i P p .0 .1;
           refuses = λ never. by-key s within .refuses (λ P p. never s P (within, p));
           wipes = λ never tagged limited.
               let wiped = by-key s within .wipes (λ P p. never s P (within, p)) tagged limited in
               let closed = ne-eqb _ 0 (by-key s within .refuses (λ P p. never s P (within, p))) in
-              (outcome (wiped .0) (work tagged limited ∙ ap (λ (t : Bool). cond t (s + 1) slots * blockWork lens (length y - 16)) closed), wiped .1);
+              (outcome (wiped .0) (work tagged limited ∙ ap (λ (t : Bool). cond t (s + 1) slots * wholeWork lens (length y - 16)) closed), wiped .1);
         }
 
 pub opens-by-the-smallest-slot : Ring

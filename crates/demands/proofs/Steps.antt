@@ -15,22 +15,23 @@ use Rattle.octets.proofs.Strings.{length-put, put-put}
 use Rattle.aes.specs.Aes.{aes}
 use Rattle.cmac.specs.Cmac.{zeros}
 use Rattle.header.specs.Header.{strings}
-use Rattle.header.specs.Blocks.{sixteenths, blocksOf}
 use Rattle.keystream.specs.KeyStream.{xorStream}
 use Rattle.keystream.specs.Pieces.{begunBlock, pieceWork}
 use Rattle.answers.specs.Answer.{first, settle, success, refusal, forged}
 use Rattle.answers.proofs.Laws.{none-where}
 use Rattle.whole.specs.Calls.{limit, scratchNeed}
 use Rattle.whole.specs.Siv.{ctrKey, tagOf, streamed, opened, genuine}
-use Rattle.whole.proofs.Laws.{by-tag, length-streamed, put-over}
+use Rattle.whole.proofs.Laws.{by-tag, open-numbered, length-streamed, put-over}
 use Rattle.stream.specs.declared.Stream.{Stream}
 use Rattle.stream.specs.State.{ended, keptFits, fits, added, addedWork, tagOfState, tagOfStateWork, streamedAt, streamedWith, turned}
 use Rattle.stream.specs.Steps.{StepResult, doneStep, refusedStep, feedRows, wrote, deciphered, addStep, turnStep, writeStep, closeStep, feedStep, forgedStep, finishStep}
 use Rattle.stream.proofs.Laws.{length-streamedAt}
-use Rattle.demands.specs.Model.{ModelState, wants, chained, After, wholeAccepts, shown, outputBefore, outputAfter, modelAfter, countAfter, workAfter, modelStep}
+use Rattle.demands.specs.Figures.{over, chained, sixteenths, blocks}
+use Rattle.demands.specs.Model.{ModelState, wants, After, wholeAccepts, shown, outputBefore, outputAfter, modelAfter, countAfter, workAfter, modelStep}
 use Rattle.demands.specs.Run.{Begin, sealer, opener, Call, add, turn, write, close, feed, finish, call, lent, sharedAfter}
 use Rattle.demands.specs.Second.{Admits}
-use Rattle.demands.proofs.Pieces.{begun-none, begun-zero, piece-work, added-work, stateOf, addingState, writingState, feedingState, join, fits-state, tag-state, tag-state-work, stream-state, kept-state, streamed-append, streamed-rest}
+use Rattle.demands.proofs.Figures.{keyed}
+use Rattle.demands.proofs.Pieces.{begun-none, begun-zero, piece-work, added-work, builtOf, addingState, writingState, feedingState, join, fits-state, tag-state, tag-state-work, stream-state, kept-state, streamed-append, streamed-rest}
 use Rattle.demands.proofs.Whole.{judged}
 
 -- ---- a call in a stage that it does not want
@@ -40,7 +41,7 @@ unfolding fits
 misfit wanted s e = simp e
 
 -- a call on a state that does not fit it
-pub call-misfit : (s : Stream) (o : List ℕ) (c : Call) → fits (wants c) s ≡ false → call s o c ≡ refusedStep 9 s (lent o c)
+call-misfit : (s : Stream) (o : List ℕ) (c : Call) → fits (wants c) s ≡ false → call s o c ≡ refusedStep 9 s (lent o c)
 unfolding addStep turnStep writeStep closeStep feedStep finishStep
 call-misfit s o (add piece) e = simp e
 call-misfit s o (turn output) e = simp e
@@ -76,7 +77,7 @@ pub data Known (key bytes lens shared : List ℕ) : Begin → ModelState → Str
       → Known key bytes lens shared sealer (modelOf 2 A W) (writingState key (strings bytes lens) A W) shared
   closed : (A W : List ℕ) → Known key bytes lens shared sealer (modelOf 0 A W) ended shared
   feeding : (T A : List ℕ) → length T ≡ 16 → length A ≤ limit → length A ≤ length shared
-      → Known key bytes lens shared (opener T) (modelOf 3 A []) (feedingState key (strings bytes lens) T (streamed key T A)) (put shared 0 (streamed key T A))
+      → Known key bytes lens shared (opener T) (modelOf 3 A []) (feedingState key (strings bytes lens) T (streamed key T A)) (over shared 0 (streamed key T A))
   finished : (T A o : List ℕ) → o ≡ shown key bytes lens (opener T) shared (modelOf 0 A []) → Known key bytes lens shared (opener T) (modelOf 0 A []) ended o
 
 module _ (key bytes lens shared : List ℕ) (a : Admits key bytes lens) where
@@ -163,7 +164,7 @@ module _ (key bytes lens shared : List ℕ) (a : Admits key bytes lens) where
 
     fitting : fits 1 S ≡ true
     unfolding S
-    fitting = fits-state key ss (a .keyed) 1 zeros zeros 0 A within (omega arith) kept
+    fitting = fits-state key ss (keyed a) 1 zeros zeros 0 A within (omega arith) kept
 
     add-step : (piece : List ℕ) → Steps sealer (modelOf 1 A []) (addingState key (strings bytes lens) A) shared (add piece)
     unfolding addStep modelStep S ss b
@@ -173,7 +174,7 @@ module _ (key bytes lens shared : List ℕ) (a : Admits key bytes lens) where
         total = length-append A piece
 
         work : addedWork S (length piece) ≡ workAfter key bytes lens sealer shared b (add piece)
-        work = added-work (stateOf key ss 1 zeros zeros 0 A) (length piece) ∙ ap (λ (n : ℕ). chained n - chained (length A)) (sym total)
+        work = added-work (builtOf key ss 1 zeros zeros 0 A) (length piece) ∙ ap (λ (n : ℕ). chained n - chained (length A)) (sym total)
 
         go : (t : Bool) → ltb limit (length A + length piece) ≡ t → Steps sealer (modelOf 1 A []) (addingState key (strings bytes lens) A) shared (add piece)
         go true e = steps sealer b S shared (add piece) (refusedStep 4 S []) (refusedAfter sealer b (add piece) 4) (simp (fitting, e)) (simp (total, e)) refl (adding A within)
@@ -183,7 +184,7 @@ module _ (key bytes lens shared : List ℕ) (a : Admits key bytes lens) where
             (adding (A ++ piece) (omega (arith, total, ltb-false limit (length A + length piece) e)))
 
     turn-step : (output : List ℕ) → Steps sealer (modelOf 1 A []) (addingState key (strings bytes lens) A) shared (turn output)
-    unfolding turnStep modelStep S ss b
+    unfolding turnStep modelStep S ss b put
     turn-step output = go (ltb (length output) 16) refl
       where
         go : (t : Bool) → ltb (length output) 16 ≡ t → Steps sealer (modelOf 1 A []) (addingState key (strings bytes lens) A) shared (turn output)
@@ -191,10 +192,10 @@ module _ (key bytes lens shared : List ℕ) (a : Admits key bytes lens) where
         go false e =
             let v : List ℕ = tagOf key ss A in
             let none : begunBlock (aes (ctrKey key)) v 0 ≡ zeros = begun-zero (aes (ctrKey key)) v in
-            steps sealer b S shared (turn output) (doneStep 16 (workAfter key bytes lens sealer shared b (turn output)) (writingState key ss A []) (put output 0 v)) (doneAfter sealer b (turn output) 0)
+            steps sealer b S shared (turn output) (doneStep 16 (workAfter key bytes lens sealer shared b (turn output)) (writingState key ss A []) (over output 0 v)) (doneAfter sealer b (turn output) 0)
             (simp (fitting, e)
-            (ap₂ (λ (w : ℕ) (x : List ℕ). doneStep 16 w (turned S x) (put output 0 x)) (tag-state-work key ss (a .keyed) 1 zeros zeros 0 A) (tag-state key ss (a .keyed) 1 zeros zeros 0 A)
-            ∙ ap (λ (k : List ℕ). doneStep 16 (workAfter key bytes lens sealer shared b (turn output)) (stateOf key ss 2 v k 0 A) (put output 0 v)) (sym none))) (simp e) refl
+            (ap₂ (λ (w : ℕ) (x : List ℕ). doneStep 16 w (turned S x) (over output 0 x)) (tag-state-work key ss (keyed a) 1 zeros zeros 0 A) (tag-state key ss (keyed a) 1 zeros zeros 0 A)
+            ∙ ap (λ (k : List ℕ). doneStep 16 (workAfter key bytes lens sealer shared b (turn output)) (builtOf key ss 2 v k 0 A) (over output 0 v)) (sym none))) (simp e) refl
             (writing A [] within (omega arith))
 
   module _ (A W : List ℕ) (within : length A ≤ limit) (shorter : length W ≤ length A) where
@@ -213,26 +214,26 @@ module _ (key bytes lens shared : List ℕ) (a : Admits key bytes lens) where
 
     fittingW : fits 2 SW ≡ true
     unfolding SW v
-    fittingW = fits-state key ss (a .keyed) 2 v (begunBlock (aes (ctrKey key)) v (length W)) (length W) A within shorter keptW
+    fittingW = fits-state key ss (keyed a) 2 v (begunBlock (aes (ctrKey key)) v (length W)) (length W) A within shorter keptW
 
     write-step : (piece output : List ℕ)
         → Steps sealer (modelOf 2 A W) (writingState key (strings bytes lens) A W) shared (write piece output)
-    unfolding writeStep modelStep SW ss bW v
+    unfolding writeStep modelStep SW ss bW v put
     write-step piece output = go (ltb (length A) (length W + length piece)) refl (ltb (length output) (length piece)) refl
       where
         total : length (W ++ piece) ≡ length W + length piece
         total = length-append W piece
 
         text : streamedAt SW (length W) piece ≡ drop (length W) (streamed key v (W ++ piece))
-        text = stream-state key ss (a .keyed) 2 v (length W) A (length W) piece ∙ sym (streamed-rest key v W piece)
+        text = stream-state key ss (keyed a) 2 v (length W) A (length W) piece ∙ sym (streamed-rest key v W piece)
 
         work : pieceWork (length W) (length piece) ≡ workAfter key bytes lens sealer shared bW (write piece output)
         work = piece-work (length W) (length piece) ∙ ap (λ (n : ℕ). sixteenths n - sixteenths (length W)) (sym total)
 
         state : wrote SW (length piece) ≡ writingState key ss A (W ++ piece)
         state =
-            ap (λ (k : List ℕ). streamedWith SW k (length W + length piece)) (kept-state key ss (a .keyed) 2 v (length W) A (length W) (length piece))
-            ∙ ap (λ (n : ℕ). stateOf key ss 2 v (begunBlock (aes (ctrKey key)) v n) n A) (sym total)
+            ap (λ (k : List ℕ). streamedWith SW k (length W + length piece)) (kept-state key ss (keyed a) 2 v (length W) A (length W) (length piece))
+            ∙ ap (λ (n : ℕ). builtOf key ss 2 v (begunBlock (aes (ctrKey key)) v n) n A) (sym total)
 
         go : (t : Bool) → ltb (length A) (length W + length piece) ≡ t → (u : Bool) → ltb (length output) (length piece) ≡ u
             → Steps sealer (modelOf 2 A W) (writingState key (strings bytes lens) A W) shared (write piece output)
@@ -243,12 +244,12 @@ module _ (key bytes lens shared : List ℕ) (a : Admits key bytes lens) where
             steps sealer bW SW shared (write piece output) (refusedStep 6 SW output) (refusedAfter sealer bW (write piece output) 6) (simp (fittingW, e, f)) (simp (total, e, f)) refl
             (writing A W within shorter)
         go false e false f =
-            let last : List ℕ = put output 0 (drop (length W) (streamed key v (W ++ piece))) in
+            let last : List ℕ = over output 0 (drop (length W) (streamed key v (W ++ piece))) in
             let w : ℕ = workAfter key bytes lens sealer shared bW (write piece output) in
             steps sealer bW SW shared (write piece output) (doneStep (length piece) w (writingState key ss A (W ++ piece)) last) (doneAfter sealer bW (write piece output) 0)
             (simp (fittingW, e, f)
-            (ap₂ (λ (n : ℕ) (s : Stream). doneStep (length piece) n s (put output 0 (streamedAt SW (length W) piece))) work state
-            ∙ ap (λ (x : List ℕ). doneStep (length piece) w (writingState key ss A (W ++ piece)) (put output 0 x)) text)) (simp (total, e, f)) refl
+            (ap₂ (λ (n : ℕ) (s : Stream). doneStep (length piece) n s (over output 0 (streamedAt SW (length W) piece))) work state
+            ∙ ap (λ (x : List ℕ). doneStep (length piece) w (writingState key ss A (W ++ piece)) (over output 0 x)) text)) (simp (total, e, f)) refl
             (writing A (W ++ piece) within (omega (arith, total, ltb-false (length A) (length W + length piece) e)))
 
     close-step : Steps sealer (modelOf 2 A W) (writingState key (strings bytes lens) A W) shared close
@@ -272,14 +273,14 @@ module _ (key bytes lens shared : List ℕ) (a : Admits key bytes lens) where
     bF = modelOf 3 A []
 
     o : List ℕ
-    o = put shared 0 P
+    o = over shared 0 P
 
     long : length P ≡ length A
     unfolding P
     long = length-streamed key T A
 
     longer : length o ≡ length shared
-    unfolding o
+    unfolding o put
     longer = length-put shared 0 P (omega (arith, long))
 
     keptF : keptFits 3 (feedingState key ss T P) ≡ true
@@ -288,17 +289,17 @@ module _ (key bytes lens shared : List ℕ) (a : Admits key bytes lens) where
 
     fittingF : fits 3 SF ≡ true
     unfolding SF
-    fittingF = fits-state key ss (a .keyed) 3 T (begunBlock (aes (ctrKey key)) T (length P)) 0 P (omega (arith, long)) (omega arith) keptF
+    fittingF = fits-state key ss (keyed a) 3 T (begunBlock (aes (ctrKey key)) T (length P)) 0 P (omega (arith, long)) (omega arith) keptF
 
-    feed-step : (piece : List ℕ) → Steps (opener T) (modelOf 3 A []) (feedingState key (strings bytes lens) T (streamed key T A)) (put shared 0 (streamed key T A)) (feed piece)
-    unfolding feedStep modelStep SF ss bF P o
+    feed-step : (piece : List ℕ) → Steps (opener T) (modelOf 3 A []) (feedingState key (strings bytes lens) T (streamed key T A)) (over shared 0 (streamed key T A)) (feed piece)
+    unfolding feedStep modelStep SF ss bF P o put
     feed-step piece = go (ltb limit (length A + length piece)) refl (ltb (length shared) (length A + length piece)) refl
       where
         total : length (A ++ piece) ≡ length A + length piece
         total = length-append A piece
 
         text : streamedAt SF (length P) piece ≡ xorStream (aes (ctrKey key)) T (length A) piece
-        text = stream-state key ss (a .keyed) 3 T 0 P (length P) piece ∙ ap (λ (n : ℕ). xorStream (aes (ctrKey key)) T n piece) long
+        text = stream-state key ss (keyed a) 3 T 0 P (length P) piece ∙ ap (λ (n : ℕ). xorStream (aes (ctrKey key)) T n piece) long
 
         joined : P ++ streamedAt SF (length P) piece ≡ streamed key T (A ++ piece)
         joined = ap (λ (x : List ℕ). P ++ x) text ∙ sym (streamed-append key T A piece)
@@ -308,23 +309,23 @@ module _ (key bytes lens shared : List ℕ) (a : Admits key bytes lens) where
 
         state : added (deciphered SF (length piece)) (streamedAt SF (length P) piece) ≡ feedingState key ss T (streamed key T (A ++ piece))
         state =
-            ap (λ (k : List ℕ). added (streamedWith SF k 0) (streamedAt SF (length P) piece)) (kept-state key ss (a .keyed) 3 T 0 P (length P) (length piece))
+            ap (λ (k : List ℕ). added (streamedWith SF k 0) (streamedAt SF (length P) piece)) (kept-state key ss (keyed a) 3 T 0 P (length P) (length piece))
             ∙ join key ss 3 T (begunBlock (aes (ctrKey key)) T (length P + length piece)) 0 P (streamedAt SF (length P) piece)
-            ∙ ap (λ (n : ℕ). stateOf key ss 3 T (begunBlock (aes (ctrKey key)) T n) 0 (P ++ streamedAt SF (length P) piece)) count
+            ∙ ap (λ (n : ℕ). builtOf key ss 3 T (begunBlock (aes (ctrKey key)) T n) 0 (P ++ streamedAt SF (length P) piece)) count
             ∙ ap (feedingState key ss T) joined
 
         work : pieceWork (length P) (length piece) + addedWork SF (length piece) ≡ workAfter key bytes lens (opener T) shared bF (feed piece)
         work =
-            ap₂ _+_ (piece-work (length P) (length piece)) (added-work (stateOf key ss 3 T (begunBlock (aes (ctrKey key)) T (length P)) 0 P) (length piece))
+            ap₂ _+_ (piece-work (length P) (length piece)) (added-work (builtOf key ss 3 T (begunBlock (aes (ctrKey key)) T (length P)) 0 P) (length piece))
             ∙ ap (λ (n : ℕ). (sixteenths (n + length piece) - sixteenths n) + (chained (n + length piece) - chained n)) long
             ∙ ap (λ (n : ℕ). (sixteenths n - sixteenths (length A)) + (chained n - chained (length A))) (sym total)
 
-        last : put o (length P) (streamedAt SF (length P) piece) ≡ put shared 0 (streamed key T (A ++ piece))
+        last : over o (length P) (streamedAt SF (length P) piece) ≡ over shared 0 (streamed key T (A ++ piece))
         last =
             let place : length P ≡ 0 + length P = omega arith in
-            ap (λ (n : ℕ). put o n (streamedAt SF (length P) piece)) place
+            ap (λ (n : ℕ). over o n (streamedAt SF (length P) piece)) place
             ∙ put-put shared 0 P (streamedAt SF (length P) piece) (omega (arith, long))
-            ∙ ap (put shared 0) joined
+            ∙ ap (over shared 0) joined
 
         number : first (feedRows SF (length piece) (length o)) ≡ cond (ltb limit (length A + length piece)) 4 (cond (ltb (length shared) (length A + length piece)) 6 0)
         number =
@@ -334,14 +335,14 @@ module _ (key bytes lens shared : List ℕ) (a : Admits key bytes lens) where
         settled : (n : ℕ) → cond (ltb limit (length A + length piece)) 4 (cond (ltb (length shared) (length A + length piece)) 6 0) ≡ n
             → call SF o (feed piece)
             ≡ settle n
-            (doneStep (length piece) (workAfter key bytes lens (opener T) shared bF (feed piece)) (feedingState key ss T (streamed key T (A ++ piece))) (put shared 0 (streamed key T (A ++ piece)))) (λ m. refusedStep m SF o)
+            (doneStep (length piece) (workAfter key bytes lens (opener T) shared bF (feed piece)) (feedingState key ss T (streamed key T (A ++ piece))) (over shared 0 (streamed key T (A ++ piece)))) (λ m. refusedStep m SF o)
         settled n e =
             ap₂ (λ (k : ℕ) (r : StepResult). settle k r (λ m. refusedStep m SF o)) (number ∙ e)
             (ap₂ (λ (s : Stream) (x : List ℕ). doneStep (length piece) (pieceWork (length P) (length piece) + addedWork SF (length piece)) s x) state last
-            ∙ ap (λ (w : ℕ). doneStep (length piece) w (feedingState key ss T (streamed key T (A ++ piece))) (put shared 0 (streamed key T (A ++ piece)))) work)
+            ∙ ap (λ (w : ℕ). doneStep (length piece) w (feedingState key ss T (streamed key T (A ++ piece))) (over shared 0 (streamed key T (A ++ piece)))) work)
 
         go : (t : Bool) → ltb limit (length A + length piece) ≡ t → (u : Bool) → ltb (length shared) (length A + length piece) ≡ u
-            → Steps (opener T) (modelOf 3 A []) (feedingState key (strings bytes lens) T (streamed key T A)) (put shared 0 (streamed key T A)) (feed piece)
+            → Steps (opener T) (modelOf 3 A []) (feedingState key (strings bytes lens) T (streamed key T A)) (over shared 0 (streamed key T A)) (feed piece)
         go true e u f =
             steps (opener T) bF SF o (feed piece) (refusedStep 4 SF o) (refusedAfter (opener T) bF (feed piece) 4) (settled 4 (simp e)) (simp (total, e)) refl
             (feeding T A tagged within outputFits)
@@ -350,7 +351,7 @@ module _ (key bytes lens shared : List ℕ) (a : Admits key bytes lens) where
             (feeding T A tagged within outputFits)
         go false e false f =
             steps (opener T) bF SF o (feed piece)
-            (doneStep (length piece) (workAfter key bytes lens (opener T) shared bF (feed piece)) (feedingState key ss T (streamed key T (A ++ piece))) (put shared 0 (streamed key T (A ++ piece))))
+            (doneStep (length piece) (workAfter key bytes lens (opener T) shared bF (feed piece)) (feedingState key ss T (streamed key T (A ++ piece))) (over shared 0 (streamed key T (A ++ piece))))
             (doneAfter (opener T) bF (feed piece) 0) (settled 0 (simp (e, f))) (simp (total, e, f)) refl
             (feeding T (A ++ piece) tagged (omega (arith, total, ltb-false limit (length A + length piece) e)) (omega (arith, total, ltb-false (length shared) (length A + length piece) f)))
 
@@ -368,7 +369,7 @@ module _ (key bytes lens shared : List ℕ) (a : Admits key bytes lens) where
     -- finish compares the tags that whole opening compares
     genuine-fed : same (tagOfState SF) T ≡ genuine key ss (T ++ A)
     unfolding genuine SF y
-    genuine-fed = ap₂ same (tag-state key ss (a .keyed) 3 T (begunBlock (aes (ctrKey key)) T (length P)) 0 P ∙ ap (tagOf key ss) (sym opened-fed)) (sym front)
+    genuine-fed = ap₂ same (tag-state key ss (keyed a) 3 T (begunBlock (aes (ctrKey key)) T (length P)) 0 P ∙ ap (tagOf key ss) (sym opened-fed)) (sym front)
 
     pub accepts-genuine : wholeAccepts key bytes lens T A ≡ genuine key (strings bytes lens) (T ++ A)
     unfolding wholeAccepts
@@ -376,7 +377,7 @@ module _ (key bytes lens shared : List ℕ) (a : Admits key bytes lens) where
         let room : List ℕ = replicate (length A) 0 in
         let scratch : List ℕ = replicate (scratchNeed (length A)) 0 in
         let count : length (T ++ A) ≡ 16 + length A = length-append T A ∙ omega arith in
-        let number = by-tag key bytes lens (T ++ A) room scratch
+        let number = open-numbered key bytes lens (T ++ A) room scratch ∙ by-tag key bytes lens (T ++ A) room scratch
         (judged key bytes lens (T ++ A) room scratch a
         (omega (arith, count, length-replicate {A = ℕ} (length A) 0))
         (omega (arith, count, length-replicate {A = ℕ} (scratchNeed (length A)) 0))
@@ -384,37 +385,37 @@ module _ (key bytes lens shared : List ℕ) (a : Admits key bytes lens) where
         (omega (arith, count))) in
         ap (λ (n : ℕ). eqb n 0) number ∙ none-where (genuine key (strings bytes lens) (T ++ A))
 
-    wiped : put o 0 (replicate (length P) 0) ≡ put shared 0 (replicate (length A) 0)
-    unfolding o
+    wiped : over o 0 (replicate (length P) 0) ≡ over shared 0 (replicate (length A) 0)
+    unfolding o put
     wiped =
         put-over shared P (replicate (length P) 0) (omega (arith, length-replicate {A = ℕ} (length P) 0))
-        ∙ ap (λ (n : ℕ). put shared 0 (replicate n 0)) long
+        ∙ ap (λ (n : ℕ). over shared 0 (replicate n 0)) long
 
     enough : ltb (length o) (length P) ≡ false
     enough = le-ltb (length o) (length P) (omega (arith, long, longer))
 
-    finish-step : Steps (opener T) (modelOf 3 A []) (feedingState key (strings bytes lens) T (streamed key T A)) (put shared 0 (streamed key T A)) finish
-    unfolding finishStep modelStep SF ss bF P o
+    finish-step : Steps (opener T) (modelOf 3 A []) (feedingState key (strings bytes lens) T (streamed key T A)) (over shared 0 (streamed key T A)) finish
+    unfolding finishStep modelStep SF ss bF P o put
     finish-step = go (genuine key (strings bytes lens) (T ++ A)) genuine-fed accepts-genuine
       where
         verdict : tagOfStateWork SF ≡ workAfter key bytes lens (opener T) shared bF finish
-        verdict = tag-state-work key ss (a .keyed) 3 T (begunBlock (aes (ctrKey key)) T (length P)) 0 P ∙ ap (λ (n : ℕ). blocksOf n - chained n) long
+        verdict = tag-state-work key ss (keyed a) 3 T (begunBlock (aes (ctrKey key)) T (length P)) 0 P ∙ ap (λ (n : ℕ). blocks n - chained n) long
 
         go : (t : Bool) → same (tagOfState SF) T ≡ t → wholeAccepts key bytes lens T A ≡ t
-            → Steps (opener T) (modelOf 3 A []) (feedingState key (strings bytes lens) T (streamed key T A)) (put shared 0 (streamed key T A)) finish
+            → Steps (opener T) (modelOf 3 A []) (feedingState key (strings bytes lens) T (streamed key T A)) (over shared 0 (streamed key T A)) finish
         go true g h =
             let last : o ≡ shown key bytes lens (opener T) shared (modelOf 0 A []) =
-            ap (put shared 0) (sym (ap (λ (t : Bool). cond t (opened key (T ++ A)) (replicate (length A) 0)) h ∙ opened-fed)) in
+            ap (over shared 0) (sym (ap (λ (t : Bool). cond t (opened key (T ++ A)) (replicate (length A) 0)) h ∙ opened-fed)) in
             steps (opener T) bF SF o finish (doneStep (length P) (tagOfStateWork SF) ended o) (doneAfter (opener T) bF finish 0) (simp (fittingF, enough, g)) (simp h)
             (ap₂ (λ (n : ℕ) (x : List ℕ). record { outcome = success n (tagOfStateWork SF); output = x }) long last
             ∙ ap (λ (w : ℕ). record { outcome = success (length A) w; output = shown key bytes lens (opener T) shared (modelOf 0 A []) }) verdict)
             (finished T A o last)
         go false g h =
-            let last : put o 0 (replicate (length P) 0) ≡ shown key bytes lens (opener T) shared (modelAfter key bytes lens (opener T) shared bF finish) =
-            wiped ∙ ap (put shared 0) (sym (ap (λ (t : Bool). cond t (opened key (T ++ A)) (replicate (length A) 0)) h)) in
+            let last : over o 0 (replicate (length P) 0) ≡ shown key bytes lens (opener T) shared (modelAfter key bytes lens (opener T) shared bF finish) =
+            wiped ∙ ap (over shared 0) (sym (ap (λ (t : Bool). cond t (opened key (T ++ A)) (replicate (length A) 0)) h)) in
             steps (opener T) bF SF o finish (forgedStep SF o) (doneAfter (opener T) bF finish 8) (simp (fittingF, enough, g)) (simp h refl)
             (ap₂ (λ (w : ℕ) (x : List ℕ). record { outcome = forged w; output = x }) verdict last)
-            (finished T A (put o 0 (replicate (length P) 0)) last)
+            (finished T A (over o 0 (replicate (length P) 0)) last)
 
   -- ---- any call
 

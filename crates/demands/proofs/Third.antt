@@ -4,7 +4,7 @@
 use mathlib.Core.Path.{_≡_, refl, ap, ap₂, sym, subst, _∙_}
 use mathlib.Core.Bool.{Bool, true, false, not, true≢false, false≢true, cond, _||_}
 use mathlib.Core.List.{List, [], _∷_, _++_, append-assoc, append-nil}
-use Prim.Native.Nat.{ℕ, _+_, _-_, _≤_}
+use Prim.Native.Nat.{ℕ, _+_, _-_, _≤_, max}
 use native.Mathlib.Omega.{arith}
 use lib.Dec.{eqb, ltb}
 use lib.ListN.{length, take, drop, replicate, length-append, length-drop, length-replicate, take-append-drop}
@@ -15,25 +15,27 @@ use Rattle.octets.proofs.Strings.{take-put}
 use Rattle.aes.specs.Aes.{aes}
 use Rattle.cmac.specs.Cmac.{zeros}
 use Rattle.header.specs.Header.{strings}
-use Rattle.header.specs.Blocks.{blocksOfAll}
 use Rattle.keystream.specs.KeyStream.{xorStream}
+use Rattle.keystream.specs.Pieces.{begunBlock}
 use Rattle.answers.specs.Answer.{Outcome, success, refusal}
 use Rattle.answers.proofs.Laws.{first-pass}
-use Rattle.whole.specs.Calls.{limit, scratchNeed, headerRows, openCall}
+use Rattle.whole.specs.Calls.{limit, headerRows, openCall}
 use Rattle.whole.specs.Siv.{ctrKey, tagOf, streamed, sealed, opened, genuine}
-use Rattle.whole.specs.Work.{blockWork}
 use Rattle.whole.proofs.Laws.{openJudged, length-streamed, length-opened}
 use Rattle.head.specs.Head.{headOf}
 use Rattle.head.proofs.Laws.{head-lengths}
 use Rattle.stream.specs.declared.Stream.{Stream}
 use Rattle.stream.specs.State.{ended}
 use Rattle.stream.specs.Steps.{StepResult, doneStep, tagRows, beginBy, beginSealer, beginOpener}
+use Rattle.demands.specs.Figures.{over, headerBlocks, wholeWork}
 use Rattle.demands.specs.Model.{ModelState, After, fresh, wants, wholeAccepts, outputBefore, workAfter, modelNumber, modelStep, modelRun}
 use Rattle.demands.specs.Run.{Begin, sealer, opener, Start, undivided, divided, Call, add, turn, write, close, feed, finish, begun, Entry, run}
-use Rattle.demands.specs.Third.{beginWork, onePiece, gaveBy, gave, noFinish, AsModel, AsSealed, fed, AsOpened, ThirdDemand}
+use Rattle.demands.specs.Third.{beginWork, onePiece, gaveBy, gave, noFinish, stateBy, AsModel, AsSealed, fed, AsOpened, ThirdDemand}
 use Rattle.demands.specs.Second.{Admits}
+use Rattle.demands.specs.State.{stateOf}
+use Rattle.demands.proofs.Figures.{blocks-all, keyed, sums}
 use Rattle.demands.proofs.Head.{admitted, begun-work, divided-as-undivided}
-use Rattle.demands.proofs.Pieces.{begun-zero, stateOf, addingState, writingState, feedingState, begin-state, streamed-append, streamed-rest}
+use Rattle.demands.proofs.Pieces.{begun-zero, builtOf, state-figures, addingState, writingState, feedingState, begin-state, streamed-append, streamed-rest}
 use Rattle.demands.proofs.Siv.{length-tag}
 use Rattle.demands.proofs.Steps.{modelOf, Known, adding, writing, closed, feeding, finished, Steps, step, known-shown, accepts-genuine, refusedAfter, doneAfter, model-wrong, unwanted}
 use Rattle.demands.proofs.Whole.{judged, open-gives, open-wipes, accepts-the-sealed}
@@ -42,9 +44,8 @@ streamed-nil : (key v : List ℕ) → streamed key v [] ≡ []
 unfolding streamed xorStream xors
 streamed-nil key v = refl
 
-put-nil : (l : List ℕ) → put l 0 [] ≡ l
-unfolding put
-put-nil l = refl
+over-nil : (l : List ℕ) → over l 0 [] ≡ l
+over-nil l = refl
 
 module _ (key bytes lens : List ℕ) (a : Admits key bytes lens) where
   -- ---- begin
@@ -66,8 +67,8 @@ module _ (key bytes lens : List ℕ) (a : Admits key bytes lens) where
   unfolding beginSealer
   sealer-begins start =
       from start sealer (addingState key (strings bytes lens) [])
-      (ap₂ (λ (n w : ℕ). beginBy n w (headOf key (strings bytes lens)) 1 zeros) (admitted key bytes lens a) (head-lengths bytes lens (omega (arith, a .sums)))
-      ∙ ap (λ (s : Stream). doneStep 0 (2 + blocksOfAll lens) s []) (begin-state key (strings bytes lens) 1 zeros))
+      (ap₂ (λ (n w : ℕ). beginBy n w (headOf key (strings bytes lens)) 1 zeros) (admitted key bytes lens a) (head-lengths bytes lens (omega (arith, sums a)) ∙ ap (λ (n : ℕ). 2 + n) (blocks-all lens))
+      ∙ ap (λ (s : Stream). doneStep 0 (2 + headerBlocks lens) s []) (begin-state key (strings bytes lens) 1 zeros))
 
   opener-begins : (start : Start) (T : List ℕ) → length T ≡ 16 → begun key bytes lens start (opener T) ≡ doneStep 0 (beginWork lens start) (feedingState key (strings bytes lens) T []) []
   unfolding beginOpener
@@ -76,9 +77,9 @@ module _ (key bytes lens : List ℕ) (a : Admits key bytes lens) where
       (ap₂ (λ (n w : ℕ). beginBy n w (headOf key (strings bytes lens)) 3 T)
       (first-pass (headerRows (length key) lens (length bytes)) (tagRows (length T)) refl (admitted key bytes lens a)
       ∙ ap (λ (b : Bool). cond (not b) 5 0) (eq-eqb (length T) 16 t))
-      (head-lengths bytes lens (omega (arith, a .sums)))
-      ∙ ap (λ (s : Stream). doneStep 0 (2 + blocksOfAll lens) s [])
-      (begin-state key (strings bytes lens) 3 T ∙ ap (λ (k : List ℕ). stateOf key (strings bytes lens) 3 T k 0 []) (sym (begun-zero (aes (ctrKey key)) T))))
+      (head-lengths bytes lens (omega (arith, sums a)) ∙ ap (λ (n : ℕ). 2 + n) (blocks-all lens))
+      ∙ ap (λ (s : Stream). doneStep 0 (2 + headerBlocks lens) s [])
+      (begin-state key (strings bytes lens) 3 T ∙ ap (λ (k : List ℕ). builtOf key (strings bytes lens) 3 T k 0 []) (sym (begun-zero (aes (ctrKey key)) T))))
 
   module _ (shared : List ℕ) where
     pub sealer-known : (start : Start) → Known key bytes lens shared sealer (fresh sealer) (begun key bytes lens start sealer .state) shared
@@ -88,8 +89,8 @@ module _ (key bytes lens : List ℕ) (a : Admits key bytes lens) where
     pub opener-known : (start : Start) (T : List ℕ) → length T ≡ 16 → Known key bytes lens shared (opener T) (fresh (opener T)) (begun key bytes lens start (opener T) .state) shared
     opener-known start T t =
         subst (λ (r : StepResult). Known key bytes lens shared (opener T) (fresh (opener T)) (r .state) shared) (sym (opener-begins start T t))
-        (subst (Known key bytes lens shared (opener T) (fresh (opener T)) (feedingState key (strings bytes lens) T [])) (ap (put shared 0) (streamed-nil key T) ∙ put-nil shared)
-        (subst (λ (P : List ℕ). Known key bytes lens shared (opener T) (fresh (opener T)) (feedingState key (strings bytes lens) T P) (put shared 0 (streamed key T []))) (streamed-nil key T)
+        (subst (Known key bytes lens shared (opener T) (fresh (opener T)) (feedingState key (strings bytes lens) T [])) (ap (over shared 0) (streamed-nil key T) ∙ over-nil shared)
+        (subst (λ (P : List ℕ). Known key bytes lens shared (opener T) (fresh (opener T)) (feedingState key (strings bytes lens) T P) (over shared 0 (streamed key T []))) (streamed-nil key T)
         (feeding T [] t (omega arith) (omega arith))))
 
     -- ---- any list of calls
@@ -104,17 +105,31 @@ module _ (key bytes lens : List ℕ) (a : Admits key bytes lens) where
         (ap₂ (λ (e : Entry) (es : List Entry). e ∷ es) (here .entry) (rest .0), rest .1)
 
     -- the state that stands for what the model keeps
-    abbrev stateBy : Begin → ModelState → Stream
-    stateBy sealer b =
+    abbrev builtBy : Begin → ModelState → Stream
+    builtBy sealer b =
         cond (eqb (b .stage) 1) (addingState key (strings bytes lens) (b .A)) (cond (eqb (b .stage) 2) (writingState key (strings bytes lens) (b .A) (b .W)) ended)
-    stateBy (opener T) b = cond (eqb (b .stage) 3) (feedingState key (strings bytes lens) T (streamed key T (b .A))) ended
+    builtBy (opener T) b = cond (eqb (b .stage) 3) (feedingState key (strings bytes lens) T (streamed key T (b .A))) ended
 
-    known-state : (begin : Begin) (b : ModelState) (s : Stream) (o : List ℕ) → Known key bytes lens shared begin b s o → s ≡ stateBy begin b
+    known-state : (begin : Begin) (b : ModelState) (s : Stream) (o : List ℕ) → Known key bytes lens shared begin b s o → s ≡ builtBy begin b
     known-state begin b s o (adding A l) = refl
     known-state begin b s o (writing A W l w) = refl
     known-state begin b s o (closed A W) = refl
     known-state begin b s o (feeding T A t l r) = refl
     known-state begin b s o (finished T A _ e) = refl
+
+    -- in figures
+    known-figures : (begin : Begin) (b : ModelState) (s : Stream) (o : List ℕ) → Known key bytes lens shared begin b s o → s ≡ stateBy key bytes lens begin b
+    unfolding begunBlock
+    known-figures begin b s o (adding A l) = state-figures key (strings bytes lens) (keyed a) 1 zeros zeros 0 A
+    known-figures begin b s o (writing A W l w) =
+        let v = tagOf key (strings bytes lens) A in
+        state-figures key (strings bytes lens) (keyed a) 2 v (begunBlock (aes (ctrKey key)) v (length W)) (length W) A
+    known-figures begin b s o (closed A W) = refl
+    known-figures begin b s o (feeding T A t l r) =
+        let P = streamed key T A in
+        state-figures key (strings bytes lens) (keyed a) 3 T (begunBlock (aes (ctrKey key)) T (length P)) 0 P
+        ∙ ap (λ (n : ℕ). stateOf key (strings bytes lens) 3 T (begunBlock (aes (ctrKey key)) T n) 0 P) (length-streamed key T A)
+    known-figures begin b s o (finished T A _ e) = refl
 
     -- of the same bytes in one piece the model keeps the same
     one-model : (begin : Begin) (b : ModelState) (s : Stream) (o : List ℕ) → Known key bytes lens shared begin b s o → eqb (b .stage) 0 ≡ false
@@ -126,7 +141,7 @@ module _ (key bytes lens : List ℕ) (a : Admits key bytes lens) where
     one-model begin b s o (feeding T A t l r) z = simp (le-ltb limit (length A) l, le-ltb (length shared) (length A) r)
     one-model begin b s o (finished T A _ e) z = absurd (true≢false z)
 
-    zero-state : (begin : Begin) (b : ModelState) (s : Stream) (o : List ℕ) → Known key bytes lens shared begin b s o → eqb (b .stage) 0 ≡ true → stateBy begin b ≡ ended
+    zero-state : (begin : Begin) (b : ModelState) (s : Stream) (o : List ℕ) → Known key bytes lens shared begin b s o → eqb (b .stage) 0 ≡ true → builtBy begin b ≡ ended
     zero-state begin b s o (adding A l) z = absurd (false≢true z)
     zero-state begin b s o (writing A W l w) z = absurd (false≢true z)
     zero-state begin b s o (closed A W) z = refl
@@ -141,7 +156,7 @@ module _ (key bytes lens : List ℕ) (a : Admits key bytes lens) where
         go true z = known-state begin b s o k ∙ zero-state begin b s o k z
         go false z =
             known-state begin b s o k
-            ∙ ap (stateBy begin) (sym (one-model begin b s o k z))
+            ∙ ap (builtBy begin) (sym (one-model begin b s o k z))
             ∙ sym (known-state begin _ _ _ (runs begin (onePiece b) (fresh begin) s₀ shared k₀ .1))
 
     as-model : (start : Start) (begin : Begin) (s : Stream) → begun key bytes lens start begin ≡ doneStep 0 (beginWork lens start) s []
@@ -153,7 +168,8 @@ module _ (key bytes lens : List ℕ) (a : Admits key bytes lens) where
           begins = ap (λ (r : StepResult). r .outcome) e;
           entries = r .0;
           output = known-shown key bytes lens shared a begin _ _ _ (r .1);
-          state = as-one-piece begin (begun key bytes lens undivided begin .state) (k undivided) _ _ _ (r .1);
+          state = known-figures begin _ _ _ (r .1);
+          onePieceState = as-one-piece begin (begun key bytes lens undivided begin .state) (k undivided) _ _ _ (r .1);
         }
 
     -- ---- what turn and the writes gave
@@ -189,11 +205,12 @@ module _ (key bytes lens : List ℕ) (a : Admits key bytes lens) where
     wrong-gave : (b : ModelState) (c : Call) → eqb (b .stage) (wants c) ≡ false → Gave b c
     wrong-gave b c e = refused-gave b c 9 (model-wrong key bytes lens shared a sealer b c e)
 
-    -- what turn and write put to the front of an output is read off it
-    read-front : (output s : List ℕ) (n : ℕ) → length s ≡ n → n ≤ length output → take n (put output 0 s) ≡ s
+    -- what turn and write over to the front of an output is read off it
+    read-front : (output s : List ℕ) (n : ℕ) → length s ≡ n → n ≤ length output → take n (over output 0 s) ≡ s
+    unfolding put
     read-front output s n e h =
         let count : n ≡ 0 + length s = omega arith in
-        ap (λ (k : ℕ). take k (put output 0 s)) count ∙ take-put output 0 s (omega arith)
+        ap (λ (k : ℕ). take k (over output 0 s)) count ∙ take-put output 0 s (omega arith)
 
     add-gave : (A piece : List ℕ) → Gave (modelOf 1 A []) (add piece)
     unfolding modelStep
@@ -349,7 +366,7 @@ module _ (key bytes lens : List ℕ) (a : Admits key bytes lens) where
 
       -- finish, as the model has it, against whole opening of the tag and all that was fed
       module _ (b : ModelState) (at : b .stage ≡ 3) (within : length (b .A) ≤ limit) (outputFits : length (b .A) ≤ length shared) (output scratch : List ℕ)
-          (large : length (b .A) ≤ length output) (scratchFits : scratchNeed (length (b .A)) ≤ length scratch) where
+          (large : length (b .A) ≤ length output) (scratchFits : max (length (b .A)) 16 ≤ length scratch) where
         y : List ℕ
         y = T ++ b .A
 
@@ -364,7 +381,7 @@ module _ (key bytes lens : List ℕ) (a : Admits key bytes lens) where
             → modelStep key bytes lens (opener T) shared b finish .entry
             ≡ record {
               outcome = record { number = cond (not t) 8 0; count = cond t (length (b .A)) 0; work = workAfter key bytes lens (opener T) shared b finish };
-              output = put shared 0 (cond t (opened key (T ++ b .A)) (replicate (length (b .A)) 0));
+              output = over shared 0 (cond t (opened key (T ++ b .A)) (replicate (length (b .A)) 0));
             }
         unfolding modelStep
         said true h = simp (eq-eqb (b .stage) 3 at, h)
@@ -375,7 +392,7 @@ module _ (key bytes lens : List ℕ) (a : Admits key bytes lens) where
         entry o s =
             record {
               outcome = record { number = o .number; count = o .count; work = workAfter key bytes lens (opener T) shared b finish };
-              output = put shared 0 s;
+              output = over shared 0 s;
             }
 
         agrees : modelStep key bytes lens (opener T) shared b finish .entry
@@ -395,16 +412,16 @@ module _ (key bytes lens : List ℕ) (a : Admits key bytes lens) where
             go true g =
                 let gives = open-gives key bytes lens y output scratch passes g in
                 said true (accepts-genuine key bytes lens shared a T (b .A) tagged within outputFits ∙ g)
-                ∙ ap₂ entry (sym (gives .0 ∙ ap (λ (k : ℕ). success k (blockWork lens (length y - 16))) count)) (sym (ap (take n) (gives .1) ∙ read-front output (opened key y) n count large))
+                ∙ ap₂ entry (sym (gives .0 ∙ ap (λ (k : ℕ). success k (wholeWork lens (length y - 16))) count)) (sym (ap (take n) (gives .1) ∙ read-front output (opened key y) n count large))
             go false g =
                 let wipes = open-wipes key bytes lens y output scratch passes g in
                 let zeroed : length y - 16 ≡ n = omega (arith, long) in
                 said false (accepts-genuine key bytes lens shared a T (b .A) tagged within outputFits ∙ g)
                 ∙ ap₂ entry (sym (wipes .0))
-                (sym (ap (take n) (wipes .1 ∙ ap (λ (k : ℕ). put output 0 (replicate k 0)) zeroed) ∙ read-front output (replicate n 0) n (length-replicate {A = ℕ} n 0) large))
+                (sym (ap (take n) (wipes .1 ∙ ap (λ (k : ℕ). over output 0 (replicate k 0)) zeroed) ∙ read-front output (replicate n 0) n (length-replicate {A = ℕ} n 0) large))
 
       as-opened : (start : Start) (calls : List Call) (output scratch : List ℕ) → noFinish calls ≡ true → length (fed key bytes lens T shared calls) ≤ length output
-          → scratchNeed (length (fed key bytes lens T shared calls)) ≤ length scratch → AsOpened key bytes lens T shared calls output scratch start
+          → max (length (fed key bytes lens T shared calls)) 16 ≤ length scratch → AsOpened key bytes lens T shared calls output scratch start
       as-opened start calls output scratch none large scratchFits =
           let r = runs (opener T) calls (fresh (opener T)) (begun key bytes lens start (opener T) .state) shared (opener-known start T tagged) in
           let at = stays-run calls (fresh (opener T)) refl none in

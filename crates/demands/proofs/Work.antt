@@ -1,58 +1,47 @@
 -- Slip 5's promises hold: calls report what was planned,
 -- the answers of a list add up, and the kept block is the key stream's own.
 -- Assumes nothing.
-use mathlib.Core.Path.{_≡_, refl, ap, ap₂, sym, subst, _∙_}
-use mathlib.Core.Bool.{Bool, true, false, not, cond, and-false, _&&_, _||_}
-use mathlib.Core.List.{List, [], _∷_, _++_, append-nil}
-use Prim.Native.Nat.{ℕ, _+_, _-_, _*_, _%_, _≤_}
+use mathlib.Core.Path.{_≡_, refl, ap, ap₂, sym, _∙_}
+use mathlib.Core.Bool.{Bool, true, false, cond, _&&_}
+use mathlib.Core.List.{List, [], _∷_, _++_}
+use Prim.Native.Nat.{ℕ, _+_, _-_, _*_, _≤_}
 use native.Mathlib.Nat.{zero-add}
 use native.Mathlib.Omega.{arith}
-use native.Mathlib.Decide.{decLe}
 use lib.Dec.{eqb, ltb}
-use lib.ListN.{length, take, drop, length-append, take-append-drop, drop-of-length-le}
-use lib.Seq.{take-all}
-use borrow.Author.Tests.{eq-eqb, ne-eqb, lt-ltb, le-ltb, ltb-false}
-use Rattle.octets.specs.Octets.{put, same, xors, allZero}
-use Rattle.aes.specs.Aes.{isWidth, aes}
-use Rattle.aes.specs.Cipher.{cipher}
-use Rattle.aes.proofs.Widths.{length-cipher}
-use Rattle.header.specs.Blocks.{sixteenths, blocksOf, blocksOfAll}
+use lib.ListN.{length, take, drop, length-append, take-append-drop}
+use borrow.Author.Tests.{le-ltb, ltb-false}
+use Rattle.header.specs.Blocks.{blocksOfAll}
 use Rattle.header.proofs.Laws.{blocks-append}
-use Rattle.s2v.specs.S2v.{tailLength}
-use Rattle.keystream.specs.KeyStream.{xorStream}
-use Rattle.keystream.specs.Pieces.{noBlock, begunBlock, leftOver, pieceWork, xorPiece, keptAfter}
-use Rattle.keystream.proofs.Laws.{xorPiece-within, xorPiece-beyond, keptAfter-within, keptAfter-beyond}
-use Rattle.answers.specs.Answer.{Outcome, Row, row, first, settle, forgedOr}
-use Rattle.answers.proofs.Laws.{lacks, first-not, first-none, not-due, cond-related}
+use Rattle.answers.specs.Answer.{Outcome, Row, row, first}
+use Rattle.answers.proofs.Laws.{lacks, first-not, first-none, not-due}
 use Rattle.whole.specs.Calls.{CallResult, refusedCall, isKeyLength, limit, sealTable, sealNumber, sealCall, openNumber, openCall}
 use Rattle.whole.specs.Ring.{ringRows, slotCount, slotKey, RingResult}
-use Rattle.whole.specs.Siv.{ctrKey}
-use Rattle.whole.specs.Work.{blockWork, plannedWork}
-use Rattle.whole.proofs.Laws.{seal-admits, seal-numbered, openJudged, open-admits, open-passed, open-forged, open-numbered, length-streamed}
+use Rattle.whole.specs.Work.{plannedWork}
+use Rattle.whole.proofs.Laws.{seal-admits, seal-numbered, openJudged, open-admits, open-passed, open-forged, open-numbered}
 use Rattle.whole.proofs.Ring.{RingCase, tries, refuses, open-ring-case}
 use Rattle.stream.specs.declared.Stream.{Stream}
-use Rattle.stream.specs.State.{ended, writtenLimit, streamPlace, keptFits, fits, added, addedWork, tagOfState, tagOfStateWork, streamedAt, keptAt, streamedWith, turned}
-use Rattle.stream.specs.Steps.{StepResult, doneStep, refusedStep, addStep, turnStep, wrote, writeStep, closeStep, deciphered, feedStep, finishTable, forgedStep, finishStep}
-use Rattle.kinphlor.specs.Interface.{aeadLens, emptyNonce, fromC, sealFromC, openFromC, openRingFromC, plannedFromC}
-use Rattle.demands.specs.First.{ringTable, FirstRing}
-use Rattle.demands.specs.Model.{ModelState, fresh, wants, chained, After, wholeAccepts, modelStep, modelRun}
+use Rattle.stream.specs.State.{ended}
+use Rattle.kinphlor.specs.Interface.{emptyNonce, fromC, sealFromC, openFromC, openRingFromC, plannedFromC}
+use Rattle.demands.specs.Figures.{chained, sixteenths, blocks, headerBlocks, wholeWork}
+use Rattle.demands.specs.First.{FirstRing}
+use Rattle.demands.specs.Model.{ModelState, fresh, wants, After, wholeAccepts, modelStep, modelRun}
 use Rattle.demands.specs.Run.{Begin, sealer, opener, Start, undivided, divided, Call, add, turn, write, close, feed, finish, begun, call}
 use Rattle.demands.specs.Third.{beginWork, AsModel}
 use Rattle.demands.specs.Second.{Admits}
-use Rattle.demands.specs.Work.{Reported, ReportedRing, workOf, headWork, AddsUp, ownBlock, BlockWork}
+use Rattle.demands.specs.Work.{Reported, ReportedRing, workOf, headWork, AddsUp, BlockWork}
+use Rattle.demands.proofs.Figures.{blocks-all, work-all}
 use Rattle.demands.proofs.First.{answers-or-first-refusal}
 use Rattle.demands.proofs.Head.{divided-as-undivided}
-use Rattle.demands.proofs.Pieces.{tag-of-state-work}
 use Rattle.demands.proofs.Slots.{ring-case-from-c}
-use Rattle.demands.proofs.Steps.{modelOf, Known, adding, writing, closed, feeding, finished, known-stage, call-misfit, model-wrong, unwanted, step}
+use Rattle.demands.proofs.Steps.{modelOf, Known, adding, writing, closed, feeding, finished, known-stage, model-wrong, unwanted, step}
 use Rattle.demands.proofs.Third.{runs, sealer-known, opener-known, accepts-the-sealed-and-follows-the-model}
 
 -- ---- planning
 
 -- where no length is refused, the plan is the sum
-planned : (lens : List ℕ) (n : ℕ) → length lens ≤ 126 → n ≤ limit → blockWork lens n ≡ plannedWork lens n
+planned : (lens : List ℕ) (n : ℕ) → length lens ≤ 126 → n ≤ limit → wholeWork lens n ≡ plannedWork lens n
 unfolding plannedWork
-planned lens n countFits within = simp (le-ltb 126 (length lens) countFits, le-ltb limit n within)
+planned lens n countFits within = sym (work-all lens n) ∙ simp (le-ltb 126 (length lens) countFits, le-ltb limit n within)
 
 module _ (key bytes lens input output scratch : List ℕ) where
   seals : Reported (sealCall key bytes lens input output scratch) (plannedWork lens (length input))
@@ -62,19 +51,19 @@ module _ (key bytes lens input output scratch : List ℕ) where
       record {
         done = λ e.
             let admitted = seal-admits key bytes lens input output scratch (number ∙ e) in
-            ap (λ (o : Outcome). o .work) (answers-or-first-refusal .sealing key bytes lens input output scratch .done e .0) ∙ planned lens (length input) (admitted .countFits) (admitted .limited);
+            ap (λ (r : CallResult). r .outcome .work) (answers-or-first-refusal .sealing key bytes lens input output scratch .done e) ∙ planned lens (length input) (admitted .countFits) (admitted .limited);
         forged = λ e. absurd (first-not 8 (sealTable key bytes lens input output scratch) refl (λ z. omega (arith, z)) (number ∙ e));
       }
 
   -- opening reports the sum of its lengths, for 8 as for success
-  pub opened-work : Reported (openCall key bytes lens input output scratch) (blockWork lens (length input - 16))
+  pub opened-work : Reported (openCall key bytes lens input output scratch) (wholeWork lens (length input - 16))
   opened-work =
       record {
-        done = λ e. ap (λ (o : Outcome). o .work) (answers-or-first-refusal .opening key bytes lens input output scratch .done e .0);
-        forged = λ e. ap (λ (o : Outcome). o .work) (answers-or-first-refusal .opening key bytes lens input output scratch .forged e .0);
+        done = λ e. ap (λ (r : CallResult). r .outcome .work) (answers-or-first-refusal .opening key bytes lens input output scratch .done e);
+        forged = λ e. ap (λ (r : CallResult). r .outcome .work) (answers-or-first-refusal .opening key bytes lens input output scratch .refused 8 e (λ z. omega (arith, z)));
       }
 
-  open-planned : openJudged key bytes lens input output scratch ≡ 0 → blockWork lens (length input - 16) ≡ plannedWork lens (length input - 16)
+  open-planned : openJudged key bytes lens input output scratch ≡ 0 → wholeWork lens (length input - 16) ≡ plannedWork lens (length input - 16)
   open-planned z =
       let admitted = open-admits key bytes lens input output scratch z in
       planned lens (length input - 16) (admitted .countFits) (omega (arith, admitted .limited))
@@ -88,12 +77,12 @@ module _ (key bytes lens input output scratch : List ℕ) where
       }
 
 -- from C: where the key is none to refuse, an empty nonce is refused
-from-c : (key output scratch : List ℕ) (ad nonce n : ℕ) (call : CallResult) → Reported call (plannedWork (aeadLens ad nonce) n) → (isKeyLength (length key) ≡ false → call .outcome .number ≡ 1)
+from-c : (key output scratch : List ℕ) (ad nonce n : ℕ) (call : CallResult) → Reported call (plannedWork (ad ∷ nonce ∷ []) n) → (isKeyLength (length key) ≡ false → call .outcome .number ≡ 1)
     → Reported (fromC nonce key output scratch call) (plannedFromC ad nonce n)
 unfolding fromC emptyNonce plannedFromC
 from-c key output scratch ad nonce n call r unkeyed = go (isKeyLength (length key)) unkeyed (eqb nonce 0)
   where
-    go : (k : Bool) → (k ≡ false → call .outcome .number ≡ 1) → (z : Bool) → Reported (cond (k && z) (refusedCall 10 output scratch) call) (cond z 0 (plannedWork (aeadLens ad nonce) n))
+    go : (k : Bool) → (k ≡ false → call .outcome .number ≡ 1) → (z : Bool) → Reported (cond (k && z) (refusedCall 10 output scratch) call) (cond z 0 (plannedWork (ad ∷ nonce ∷ []) n))
     go true u true = record { done = λ e. omega (arith, e); forged = λ e. omega (arith, e) }
     go true u false = r
     go false u z = record { done = λ e. absurd (omega (arith, e, u refl)); forged = λ e. absurd (omega (arith, e, u refl)) }
@@ -102,34 +91,34 @@ module _ (key header input output scratch : List ℕ) (ad nonce : ℕ) where
   seals-from-c : Reported (sealFromC key header ad nonce input output scratch) (plannedFromC ad nonce (length input))
   unfolding sealNumber
   seals-from-c =
-      from-c key output scratch ad nonce (length input) _ (seals key header (aeadLens ad nonce) input output scratch)
-      (λ k. seal-numbered key header (aeadLens ad nonce) input output scratch ∙ simp k)
+      from-c key output scratch ad nonce (length input) _ (seals key header (ad ∷ nonce ∷ []) input output scratch)
+      (λ k. seal-numbered key header (ad ∷ nonce ∷ []) input output scratch ∙ simp k)
 
   opens-from-c : Reported (openFromC key header ad nonce input output scratch) (plannedFromC ad nonce (length input - 16))
   unfolding openNumber
   opens-from-c =
-      from-c key output scratch ad nonce (length input - 16) _ (opens key header (aeadLens ad nonce) input output scratch)
-      (λ k. open-numbered key header (aeadLens ad nonce) input output scratch ∙ simp k)
+      from-c key output scratch ad nonce (length input - 16) _ (opens key header (ad ∷ nonce ∷ []) input output scratch)
+      (λ k. open-numbered key header (ad ∷ nonce ∷ []) input output scratch ∙ simp k)
 
 -- ---- a ring
 
-module _ (keyLength : ℕ) (ring bytes lens input output scratch : List ℕ) (behind : List Row) where
+module _ (keyLength : ℕ) (ring bytes lens input output scratch : List ℕ) (behind : List Row) (E : Type 0) where
   -- a ring whose rows, with those put behind them, do not refuse it reports one plan for each key that it tries
   ring-reports : {result : RingResult} (plan : ℕ) → lacks 8 behind ≡ true
       → RingCase keyLength ring bytes lens input output scratch (first (ringRows keyLength (length ring) ++ behind)) result
-      → FirstRing keyLength ring bytes lens input output scratch (ringTable keyLength ring bytes lens input output scratch behind) result
+      → FirstRing keyLength ring bytes lens input output scratch E result
       → (first (ringRows keyLength (length ring) ++ behind) ≡ 0 → plannedWork lens (length input - 16) ≡ plan) → ReportedRing (slotCount keyLength (length ring)) result plan
   ring-reports plan l (refuses z) f p =
       record { done = λ e. absurd (z e); forged = λ e. absurd (first-not 8 (ringRows keyLength (length ring) ++ behind) l (λ k. omega (arith, k)) e) }
   ring-reports plan l (tries {s} z g) f p =
       let number = sym (open-numbered (slotKey keyLength ring s) bytes lens input output scratch) in
       record {
-        done = λ e. ap (λ (o : Outcome). o .work) (f .done e .0) ∙ ap (λ (w : ℕ). (s + 1) * w) (as-planned (open-passed (slotKey keyLength ring s) bytes lens input output scratch (number ∙ e)));
+        done = λ e. ap (λ (r : RingResult). r .call .outcome .work) (f .done e) ∙ ap (λ (w : ℕ). (s + 1) * w) (as-planned (open-passed (slotKey keyLength ring s) bytes lens input output scratch (number ∙ e)));
         forged = λ e.
-            ap (λ (o : Outcome). o .work) (f .forged e .0) ∙ ap (λ (w : ℕ). slotCount keyLength (length ring) * w) (as-planned (open-forged (slotKey keyLength ring s) bytes lens input output scratch (number ∙ e)));
+            ap (λ (r : RingResult). r .call .outcome .work) (f .refused 8 e (λ k. omega (arith, k))) ∙ ap (λ (w : ℕ). slotCount keyLength (length ring) * w) (as-planned (open-forged (slotKey keyLength ring s) bytes lens input output scratch (number ∙ e)));
       }
     where
-      as-planned : openJudged (slotKey keyLength ring s) bytes lens input output scratch ≡ 0 → blockWork lens (length input - 16) ≡ plan
+      as-planned : openJudged (slotKey keyLength ring s) bytes lens input output scratch ≡ 0 → wholeWork lens (length input - 16) ≡ plan
       as-planned e =
           let admitted = open-admits (slotKey keyLength ring s) bytes lens input output scratch e in
           planned lens (length input - 16) (admitted .countFits) (omega (arith, admitted .limited)) ∙ p z
@@ -138,43 +127,9 @@ ring-from-c : (keyLength : ℕ) (ring header input output scratch : List ℕ) (a
     → ReportedRing (slotCount keyLength (length ring)) (openRingFromC keyLength ring header ad nonce input output scratch) (plannedFromC ad nonce (length input - 16))
 unfolding plannedFromC
 ring-from-c keyLength ring header input output scratch ad nonce =
-    ring-reports keyLength ring header (aeadLens ad nonce) input output scratch (row 10 (eqb nonce 0) ∷ []) _ refl (ring-case-from-c keyLength ring header input output scratch ad nonce)
+    ring-reports keyLength ring header (ad ∷ nonce ∷ []) input output scratch (row 10 (eqb nonce 0) ∷ []) (nonce ≡ 0) _ refl (ring-case-from-c keyLength ring header input output scratch ad nonce)
     (answers-or-first-refusal .openingRingFromC keyLength ring header input output scratch ad nonce)
     (λ z. simp (not-due (eqb nonce 0) 9 0 (first-none (ringRows keyLength (length ring)) (row 10 (eqb nonce 0) ∷ []) refl z .1) .0))
-
--- ---- the kept block of a state as given
-
-module _ (s : Stream) (place : ℕ) (long : length (s .kept) ≡ 16) where
-  abbrev E : List ℕ → List ℕ
-  E = cipher (s .width) (s .«ctr_keys»)
-
-  used : (piece : List ℕ)
-      → let n = leftOver place in
-      streamedAt s place piece ≡ xors (take n piece) (drop (place % 16) (s .kept)) ++ xorStream E (s .v) (place + n) (drop n piece)
-  unfolding streamedAt xorStream xors
-  used piece = go (decLe (leftOver place) (length piece))
-    where
-      n : ℕ
-      n = leftOver place
-
-      go : Dec (n ≤ length piece) → xorPiece E (s .v) (s .kept) place piece ≡ xors (take n piece) (drop (place % 16) (s .kept)) ++ xorStream E (s .v) (place + n) (drop n piece)
-      go (yes h) = xorPiece-beyond E (length-cipher _ _) (s .v) (s .kept) place piece long h
-      go (no h) =
-          let all : length piece ≤ n = omega (arith, h) in
-          xorPiece-within E (s .v) (s .kept) place piece all
-          ∙ sym (append-nil (xors piece (drop (place % 16) (s .kept))))
-          ∙ ap₂ (λ (a b : List ℕ). xors a (drop (place % 16) (s .kept)) ++ xorStream E (s .v) (place + n) b) (sym (take-all n piece all)) (sym (drop-of-length-le piece all))
-
-  stays : (n : ℕ) → keptAt s place n ≡ cond (ltb n (leftOver place)) (s .kept) (begunBlock E (s .v) (place + n))
-  unfolding keptAt
-  stays n = go (decLe (leftOver place) n)
-    where
-      go : Dec (leftOver place ≤ n) → keptAfter E (s .v) (s .kept) place n ≡ cond (ltb n (leftOver place)) (s .kept) (begunBlock E (s .v) (place + n))
-      go (yes h) = simp (le-ltb n (leftOver place) h) (keptAfter-beyond E (length-cipher _ _) (s .v) (s .kept) place n long h)
-      go (no h) =
-          let begun : (place + n) % 16 ≡ 0 → ⊥ = λ z. omega (arith, h, z) in
-          simp (lt-ltb n (leftOver place) (omega (arith, h)))
-          (keptAfter-within E (s .v) (s .kept) place n (omega (arith, h)) ∙ ap (λ (t : Bool). cond t noBlock (s .kept)) (ne-eqb ((place + n) % 16) 0 begun))
 
 -- ---- lists of calls
 
@@ -182,8 +137,8 @@ module _ (s : Stream) (place : ℕ) (long : length (s .kept) ≡ 16) where
 abbrev reported : Begin → ModelState → ℕ
 reported sealer b =
     cond (eqb (b .stage) 1) (chained (length (b .A)))
-    (cond (eqb (b .stage) 2) (blocksOf (length (b .A)) + sixteenths (length (b .W))) (blocksOf (length (b .A)) + sixteenths (length (b .A))))
-reported (opener T) b = cond (eqb (b .stage) 3) (chained (length (b .A)) + sixteenths (length (b .A))) (blocksOf (length (b .A)) + sixteenths (length (b .A)))
+    (cond (eqb (b .stage) 2) (blocks (length (b .A)) + sixteenths (length (b .W))) (blocks (length (b .A)) + sixteenths (length (b .A))))
+reported (opener T) b = cond (eqb (b .stage) 3) (chained (length (b .A)) + sixteenths (length (b .A))) (blocks (length (b .A)) + sixteenths (length (b .A)))
 
 module _ (key bytes lens shared : List ℕ) (a : Admits key bytes lens) where
   -- a call reports what it adds
@@ -230,7 +185,7 @@ module _ (key bytes lens shared : List ℕ) (a : Admits key bytes lens) where
       go true e = simp e (zero-add _)
       go false e =
           let all : length W ≡ length A = omega (arith, ltb-false (length W) (length A) e) in
-          simp e (zero-add _ ∙ ap (λ (n : ℕ). blocksOf (length A) + sixteenths n) all)
+          simp e (zero-add _ ∙ ap (λ (n : ℕ). blocks (length A) + sixteenths n) all)
 
   feed-adds : (T A piece : List ℕ) → Adds (opener T) (modelOf 3 A []) (feed piece)
   unfolding modelStep
@@ -280,17 +235,20 @@ module _ (key bytes lens shared : List ℕ) (a : Admits key bytes lens) where
       omega (arith, adds begin b s o c k, rest)
 
   -- the head's work and begin's are those of all header strings
-  begin-adds : (start : Start) → headWork key bytes lens start + beginWork lens start ≡ 2 + blocksOfAll lens
+  begin-adds : (start : Start) → headWork key bytes lens start + beginWork lens start ≡ 2 + headerBlocks lens
   begin-adds undivided = zero-add _
   begin-adds (divided n) =
       omega (
         arith,
         ap (λ (o : Outcome). o .work) (divided-as-undivided .splits key bytes lens a n .made),
         sym (blocks-append (take n lens) (drop n lens)) ∙ ap blocksOfAll (take-append-drop n lens),
+        blocks-all (take n lens),
+        blocks-all (drop n lens),
+        blocks-all lens,
       )
 
   -- in stage 0 all of the sum is reported
-  at-end : (begin : Begin) (b : ModelState) → b .stage ≡ 0 → reported begin b ≡ blocksOf (length (b .A)) + sixteenths (length (b .A))
+  at-end : (begin : Begin) (b : ModelState) → b .stage ≡ 0 → reported begin b ≡ blocks (length (b .A)) + sixteenths (length (b .A))
   at-end sealer b e = simp e
   at-end (opener T) b e = simp e
 
@@ -313,74 +271,6 @@ module _ (key bytes lens shared : List ℕ) (a : Admits key bytes lens) where
         at-end begin b (sym (known-stage key bytes lens shared a begin b _ _ last) ∙ ended),
       )
 
-  -- ---- the kept block
-
-  known-kept : (begin : Begin) (b : ModelState) (s : Stream) (o : List ℕ) → Known key bytes lens shared begin b s o → s .kept ≡ ownBlock key bytes lens begin b
-  known-kept begin b s o (adding A l) = refl
-  known-kept begin b s o (writing A W l w) = refl
-  known-kept begin b s o (closed A W) = refl
-  known-kept begin b s o (feeding T A t l r) = ap (begunBlock (aes (ctrKey key)) T) (length-streamed key T A)
-  known-kept begin b s o (finished T A _ e) = refl
-
--- where it may not be kept, 9 is due
-misfit : (wanted : ℕ) (s : Stream) → streamPlace wanted s % 16 ≡ 0 → allZero (s .kept) ≡ false → fits wanted s ≡ false
-unfolding fits keptFits
-misfit wanted s whole some =
-    let before : Bool =
-    eqb (s .stage) wanted && isWidth (s .width) && not (ltb limit (s .total)) && not (ltb (writtenLimit wanted (s .total)) (s .written)) && eqb (s .«tail_len») (tailLength (s .total)) in
-    ap (λ (t : Bool). before && t && allZero (drop (tailLength (s .total)) (s .tail))) (ap₂ (λ (t u : Bool). not t || u) (eq-eqb (streamPlace wanted s % 16) 0 whole) some)
-    ∙ ap (λ (t : Bool). t && allZero (drop (tailLength (s .total)) (s .tail))) (and-false before)
-
--- where it may be any, it decides nothing
-any-fits : (wanted : ℕ) (s : Stream) (kept : List ℕ) → (streamPlace wanted s % 16 ≡ 0 → ⊥) → fits wanted (streamedWith s kept (s .written)) ≡ fits wanted s
-unfolding fits keptFits
-any-fits wanted s kept begun = simp (ne-eqb (streamPlace wanted s % 16) 0 begun) refl
-
--- what a call answers goes by its number
-SameAnswer : StepResult → StepResult → Type 0
-SameAnswer a b = a .outcome ≡ b .outcome
-
-same-answer : (n n′ m w : ℕ) (next next′ s s′ : Stream) (last last′ o : List ℕ) → n ≡ n′
-    → settle n (doneStep m w next last) (λ i. refusedStep i s o) .outcome ≡ settle n′ (doneStep m w next′ last′) (λ i. refusedStep i s′ o) .outcome
-unfolding SameAnswer
-same-answer n n′ m w next next′ s s′ last last′ o e =
-    subst (λ (k : ℕ). settle n (doneStep m w next last) (λ i. refusedStep i s o) .outcome ≡ settle k (doneStep m w next′ last′) (λ i. refusedStep i s′ o) .outcome) e
-    (cond-related SameAnswer (eqb n 0) refl refl)
-
-module _ (s : Stream) (kept shared : List ℕ) where
-  -- the state with another kept block
-  abbrev changed : Stream
-  changed = streamedWith s kept (s .written)
-
-  -- the number does not depend on it
-  same-number : (wanted : ℕ) (rest : List Row) → (streamPlace wanted s % 16 ≡ 0 → ⊥) → first (row 9 (not (fits wanted changed)) ∷ rest) ≡ first (row 9 (not (fits wanted s)) ∷ rest)
-  same-number wanted rest begun = ap (λ (f : Bool). first (row 9 (not f) ∷ rest)) (any-fits wanted s kept begun)
-
-  unjudged : (c : Call) → (streamPlace (wants c) s % 16 ≡ 0 → ⊥) → call changed shared c .outcome ≡ call s shared c .outcome
-  unfolding addStep turnStep writeStep closeStep feedStep finishStep addedWork tagOfState tagOfStateWork SameAnswer
-  unjudged (add piece) begun =
-      let n = length piece in
-      same-answer _ _ 0 (addedWork s n) (added changed piece) (added s piece) changed s [] [] [] (same-number 1 (row 4 (ltb limit (s .total + n)) ∷ []) begun)
-  unjudged (turn output) begun =
-      let v = tagOfState s in
-      same-answer _ _ 16 (tagOfStateWork s) (turned changed v) (turned s v) changed s (put output 0 v) (put output 0 v) output (same-number 1 (row 6 (ltb (length output) 16) ∷ []) begun)
-  unjudged (write piece output) begun =
-      let n = length piece in
-      same-answer _ _ n (pieceWork (s .written) n) (wrote changed n) (wrote s n) changed s (put output 0 (streamedAt changed (s .written) piece)) (put output 0 (streamedAt s (s .written) piece)) output
-      (same-number 2 (row 4 (ltb (s .total) (s .written + n)) ∷ row 6 (ltb (length output) n) ∷ []) begun)
-  unjudged close begun =
-      same-answer _ _ 0 0 ended ended changed s [] [] [] (ap (λ (f : Bool). first (row 9 (not (f && not (ltb (s .written) (s .total)))) ∷ [])) (any-fits 2 s kept begun))
-  unjudged (feed piece) begun =
-      let n = length piece in
-      let p = streamedAt changed (s .total) piece in
-      let q = streamedAt s (s .total) piece in
-      same-answer _ _ n (pieceWork (s .total) n + addedWork s n) (added (deciphered changed n) p) (added (deciphered s n) q) changed s (put shared (s .total) p) (put shared (s .total) q) shared
-      (same-number 3 (row 4 (ltb limit (s .total + n)) ∷ row 6 (ltb (length shared) (s .total + n)) ∷ []) begun)
-  unjudged finish begun =
-      subst (λ (k : ℕ). finishStep changed shared .outcome ≡ settle k (doneStep (s .total) (tagOfStateWork s) ended shared) (forgedOr (forgedStep s shared) (λ i. refusedStep i s shared)) .outcome)
-      (same-number 3 (row 6 (ltb (length shared) (s .total)) ∷ row 8 (not (same (tagOfState s) (s .v))) ∷ []) begun)
-      (cond-related SameAnswer (eqb (first (finishTable changed shared)) 0) refl (cond-related SameAnswer (eqb (first (finishTable changed shared)) 8) refl refl))
-
 pub reports-and-adds-up : BlockWork
 reports-and-adds-up =
     record {
@@ -388,21 +278,12 @@ reports-and-adds-up =
       opens = opens;
       sealsFromC = seals-from-c;
       opensRing = λ keyLength ring bytes lens input output scratch.
-          ring-reports keyLength ring bytes lens input output scratch [] _ refl (open-ring-case keyLength ring bytes lens input output scratch)
+          ring-reports keyLength ring bytes lens input output scratch [] ⊥ _ refl (open-ring-case keyLength ring bytes lens input output scratch)
           (answers-or-first-refusal .openingRing keyLength ring bytes lens input output scratch) (λ z. refl);
       opensFromC = opens-from-c;
       opensRingFromC = ring-from-c;
-      tags = tag-of-state-work;
       sealers = λ key bytes lens a start shared calls.
           adds-up key bytes lens shared a sealer calls start (accepts-the-sealed-and-follows-the-model key bytes lens a .sealers start shared calls) (sealer-known key bytes lens a shared start);
       openers = λ key bytes lens a start T shared calls t.
           adds-up key bytes lens shared a (opener T) calls start (accepts-the-sealed-and-follows-the-model key bytes lens a .openers start T shared calls t) (opener-known key bytes lens a shared start T t);
-      sealersKeep = λ key bytes lens a start shared calls.
-          known-kept key bytes lens shared a sealer _ _ _ (runs key bytes lens a shared sealer calls (fresh sealer) _ shared (sealer-known key bytes lens a shared start) .1);
-      openersKeep = λ key bytes lens a start T shared calls t.
-          known-kept key bytes lens shared a (opener T) _ _ _ (runs key bytes lens a shared (opener T) calls (fresh (opener T)) _ shared (opener-known key bytes lens a shared start T t) .1);
-      used = λ s place piece long. used s place long piece;
-      stays = λ s place n long. stays s place long n;
-      unjudged = unjudged;
-      judged = λ s shared c whole some. call-misfit s shared c (misfit (wants c) s whole some);
     }

@@ -2,143 +2,143 @@
 -- with state and buffers as document 01's table says, and the work that slip 5 of document 02 says.
 -- Assumes nothing.
 use mathlib.Core.Path.{_≡_}
-use mathlib.Core.Bool.{Bool, true, false, not, cond, _&&_}
-use mathlib.Core.List.{List, [], _∷_, _++_}
-use Prim.Native.Nat.{ℕ, zero, suc, _+_, _-_, _*_, _/_, _%_}
-use lib.Dec.{ltb, eqb}
-use lib.ListN.{length, drop, replicate}
-use Rattle.octets.specs.Octets.{put}
-use Rattle.aes.specs.Aes.{isWidth}
-use Rattle.cmac.specs.Cmac.{zeros}
-use Rattle.header.specs.Header.{total, strings}
-use Rattle.header.specs.Blocks.{sixteenths, blocksOfAll}
+use mathlib.Core.Bool.{cond}
+use mathlib.Core.List.{List, [], _∷_}
+use mathlib.Core.Logic.{_⊎_}
+use Prim.Native.Nat.{ℕ, _+_, _-_, _*_, _/_, _%_, _≤_, _<_, max}
+use lib.Dec.{eqb}
+use lib.ListN.{length, take, drop, replicate, getD}
+use Rattle.header.specs.Header.{strings}
 use Rattle.answers.specs.declared.Answer.{Answer}
-use Rattle.answers.specs.Answer.{Outcome, success, refusal, forged, Row, row, outcomeOf}
-use Rattle.worst_header.specs.WorstHeader.{planRows, IsWorst, GivesWorst}
-use Rattle.whole.specs.Calls.{CallResult, scratchNeed, headerRows, openRows, sealTable, sealCall, openTable, openCall}
-use Rattle.whole.specs.Ring.{slotCount, slotKey, ringRows, RingResult, openRing}
-use Rattle.whole.specs.Siv.{sealed, opened, genuine}
-use Rattle.whole.specs.Work.{blockWork}
+use Rattle.answers.specs.declared.Answer.the-variants.{Ok, Refused}
+use Rattle.answers.specs.declared.Refusal.the-variants.{KeyLength, HeaderCount, HeaderLengths, TooLong, SealedLength, OutputShort, ScratchShort, Forged, State, EmptyNonce, RingLength, HeaderPlan}
+use Rattle.answers.specs.Answer.{Outcome, outcomeOf}
+use Rattle.worst_header.specs.WorstHeader.{GivesWorst}
+use Rattle.whole.specs.Calls.{CallResult, sealCall, openCall}
+use Rattle.whole.specs.Ring.{RingResult, openRing}
+use Rattle.whole.specs.Siv.{tagOf, sealed, opened}
 use Rattle.head.specs.declared.Head.{Head}
-use Rattle.head.specs.Head.{zeroHead, headOf, extended, MakeResult, madeHead, makeHead, extendHead}
+use Rattle.head.specs.Head.{MakeResult, makeHead, extendHead}
 use Rattle.stream.specs.declared.Stream.{Stream}
-use Rattle.stream.specs.State.{ended, start, added, tagOfState, tagOfStateWork, streamedAt, turned}
-use Rattle.stream.specs.Steps.{StepResult, doneStep, refusedStep, tagRows, beginSealer, beginOpener, beginSealerFrom, beginOpenerFrom, addRows, addStep, turnRows, turnStep, writeRows, wrote, writeStep, closeRows, closeStep, feedRows, deciphered, feedStep, finishTable, forgedStep, finishStep}
-use Rattle.kinphlor.specs.Interface.{aeadLens, packed, sealFromC, openFromC, packedRing, openRingFromC, GivesWorstFromC}
-use Rattle.demands.specs.Model.{chained}
+use Rattle.stream.specs.Steps.{StepResult, beginSealer, beginOpener, beginSealerFrom, beginOpenerFrom}
+use Rattle.kinphlor.specs.Interface.{packed, sealFromC, openFromC, packedRing, openRingFromC, GivesWorstFromC}
+use Rattle.demands.specs.Figures.{IsKeyLength, IsKeyWidth, IsRingLength, keyIn, over, sum, headerBlocks, wholeWork}
+use Rattle.demands.specs.Run.{Call, call}
+use Rattle.demands.specs.State.{blankHead, preparedHead, longerHead, blankState, begunState}
+use Rattle.demands.specs.Steps.{Nine, stepped, stepTable, stepDone, stepLeft, Sized}
+use Rattle.demands.specs.Table.{told, Row, row, FirstDue, ByTable}
 
--- document 01's order of refusals, with document 02's 11 straight after 1;
--- 12 is alone in its table, so its place says nothing
-abbrev pub order : List ℕ
-order = 9 ∷ 1 ∷ 11 ∷ 10 ∷ 2 ∷ 3 ∷ 5 ∷ 4 ∷ 6 ∷ 7 ∷ 8 ∷ 12 ∷ []
+-- ---- answers
 
--- whether rows keep an order
-abbrev pub keeps : List ℕ → List Row → Bool
-keeps [] [] = true
-keeps [] (r ∷ rs) = false
-keeps (n ∷ ns) [] = true
-keeps (n ∷ ns) (r ∷ rs) = cond (eqb (r .number) n) (keeps ns rs) (keeps ns (r ∷ rs))
+-- every case of an answer has document 01's number, or 02's; a refusal has length 0
+pub record Numbers (w : ℕ) : Type 0 where
+  pub ok : (n : ℕ) → outcomeOf (Ok n) w ≡ told 0 n w
+  pub keyLength : outcomeOf (Refused KeyLength) w ≡ told 1 0 w
+  pub headerCount : outcomeOf (Refused HeaderCount) w ≡ told 2 0 w
+  pub headerLengths : outcomeOf (Refused HeaderLengths) w ≡ told 3 0 w
+  pub tooLong : outcomeOf (Refused TooLong) w ≡ told 4 0 w
+  pub sealedLength : outcomeOf (Refused SealedLength) w ≡ told 5 0 w
+  pub outputShort : outcomeOf (Refused OutputShort) w ≡ told 6 0 w
+  pub scratchShort : outcomeOf (Refused ScratchShort) w ≡ told 7 0 w
+  pub forged : outcomeOf (Refused Forged) w ≡ told 8 0 w
+  pub state : outcomeOf (Refused State) w ≡ told 9 0 w
+  pub emptyNonce : outcomeOf (Refused EmptyNonce) w ≡ told 10 0 w
+  pub ringLength : outcomeOf (Refused RingLength) w ≡ told 11 0 w
+  pub headerPlan : outcomeOf (Refused HeaderPlan) w ≡ told 12 0 w
 
--- n is the number of the first row that is due, and no row before it is due; or it is 0, and none is due
-pub data FirstDue : List Row → ℕ → Type 0 where
-  none : FirstDue [] 0
-  here : {r : Row} {rs : List Row} → r .due ≡ true → FirstDue (r ∷ rs) (r .number)
-  later : {r : Row} {rs : List Row} {n : ℕ} → r .due ≡ false → FirstDue rs n → FirstDue (r ∷ rs) n
+-- ---- whole calls
 
--- a call gave a number, a length and its work, and left these buffers
-abbrev Leaves : CallResult → Outcome → List ℕ → List ℕ → Type 0
-Leaves result outcome output scratch = (result .outcome ≡ outcome) × (result .output ≡ output) × (result .scratch ≡ scratch)
+-- number, length and work, and the last contents of output and scratch
+abbrev pub called : ℕ → ℕ → ℕ → List ℕ → List ℕ → CallResult
+called number count work output scratch = record { outcome = told number count work; output = output; scratch = scratch }
 
--- a scratch with what n bytes need of it zero
-abbrev cleared : List ℕ → ℕ → List ℕ
-cleared scratch n = put scratch 0 (replicate (scratchNeed n) 0)
+-- a scratch with what a plaintext of n bytes needs of it zero: n bytes, and at least 16
+abbrev pub cleared : List ℕ → ℕ → List ℕ
+cleared scratch n = over scratch 0 (replicate (max n 16) 0)
+
+-- the tag that is recomputed for a sealed string is the given one
+abbrev pub Genuine : List ℕ → List (List ℕ) → List ℕ → Type 0
+Genuine key ss y = tagOf key ss (opened key y) ≡ take 16 y
 
 module _ (key bytes lens input output scratch : List ℕ) where
-  -- sealing and opening with these six, and their tables
-  abbrev sealResult : CallResult
-  sealResult = sealCall key bytes lens input output scratch
+  -- sealing, from Rattle and from C: there the nonce may be empty
+  abbrev sealingTable : Type 0 → List Row
+  sealingTable emptyNonce =
+      row 1 (IsKeyLength (length key) → ⊥)
+      ∷ row 10 emptyNonce
+      ∷ row 2 (126 < length lens)
+      ∷ row 3 (sum lens ≡ length bytes → ⊥)
+      ∷ row 4 (1048576 < length input)
+      ∷ row 6 (length output < length input + 16)
+      ∷ row 7 (length scratch < max (length input) 16)
+      ∷ []
 
-  abbrev sealingTable : List Row
-  sealingTable = sealTable key bytes lens input output scratch
+  abbrev pub FirstSeal : Type 0 → CallResult → Type 0
+  FirstSeal emptyNonce result =
+      ByTable CallResult (sealingTable emptyNonce) (result .outcome .number) result
+      (called 0 (length input + 16) (wholeWork lens (length input)) (over output 0 (sealed key (strings bytes lens) input))
+      (cleared scratch (length input)))
+      (λ n. called n 0 0 output scratch)
 
-  abbrev openResult : CallResult
-  openResult = openCall key bytes lens input output scratch
+  -- opening, from Rattle and from C
+  abbrev openingTable : Type 0 → List Row
+  openingTable emptyNonce =
+      row 1 (IsKeyLength (length key) → ⊥)
+      ∷ row 10 emptyNonce
+      ∷ row 2 (126 < length lens)
+      ∷ row 3 (sum lens ≡ length bytes → ⊥)
+      ∷ row 5 (length input < 16)
+      ∷ row 4 (1048592 < length input)
+      ∷ row 6 (length output < length input - 16)
+      ∷ row 7 (length scratch < max (length input - 16) 16)
+      ∷ row 8 (Genuine key (strings bytes lens) input → ⊥)
+      ∷ []
 
-  abbrev openingTable : List Row
-  openingTable = openTable key bytes lens input output scratch
-
-  pub record FirstSeal : Type 0 where
-    pub ordered : keeps order sealingTable ≡ true
-    pub first : FirstDue sealingTable (sealResult .outcome .number)
-    pub done : sealResult .outcome .number ≡ 0
-        → Leaves sealResult (success (length input + 16) (blockWork lens (length input)))
-        (put output 0 (sealed key (strings bytes lens) input)) (cleared scratch (length input))
-    pub refused : (n : ℕ) → sealResult .outcome .number ≡ n → (n ≡ 0 → ⊥) → Leaves sealResult (refusal n) output scratch
-
-  pub record FirstOpen : Type 0 where
-    pub ordered : keeps order openingTable ≡ true
-    pub first : FirstDue openingTable (openResult .outcome .number)
-    pub done : openResult .outcome .number ≡ 0
-        → Leaves openResult (success (length input - 16) (blockWork lens (length input - 16))) (put output 0 (opened key input)) (cleared scratch (length input - 16))
-    pub forged : openResult .outcome .number ≡ 8
-        → Leaves openResult (forged (blockWork lens (length input - 16))) (put output 0 (replicate (length input - 16) 0)) (cleared scratch (length input - 16))
-    pub refused : (n : ℕ) → openResult .outcome .number ≡ n → (n ≡ 0 → ⊥) → (n ≡ 8 → ⊥) → Leaves openResult (refusal n) output scratch
-
--- ---- the C interface
-
--- a whole call's rows at the C interface: 10, for an empty nonce, straight after 1
-abbrev pub rowsFromC : ℕ → List Row → List Row
-rowsFromC nonce [] = []
-rowsFromC nonce (r ∷ rs) = r ∷ row 10 (eqb nonce 0) ∷ rs
-
--- the interface over a whole call with its table: 10 with all lent memory untouched, or what the call gave
-pub record FirstFromC (table : List Row) (nonce : ℕ) (output scratch : List ℕ) (call result : CallResult) : Type 0 where
-  pub ordered : keeps order (rowsFromC nonce table) ≡ true
-  pub first : FirstDue (rowsFromC nonce table) (result .outcome .number)
-  pub empty : result .outcome .number ≡ 10 → Leaves result (refusal 10) output scratch
-  pub otherwise : (result .outcome .number ≡ 10 → ⊥) → result ≡ call
+  abbrev pub FirstOpen : Type 0 → CallResult → Type 0
+  FirstOpen emptyNonce result =
+      let n = length input - 16 in
+      let work = wholeWork lens n in
+      ByTable CallResult (openingTable emptyNonce) (result .outcome .number) result
+      (called 0 n work (over output 0 (opened key input)) (cleared scratch n))
+      (λ number. cond (eqb number 8) (called 8 0 work (over output 0 (replicate n 0)) (cleared scratch n)) (called number 0 0 output scratch))
 
 -- ---- a ring of keys
 
--- no slot below n passes a test
-abbrev pub noSlot : (ℕ → Bool) → ℕ → Bool
-noSlot test zero = true
-noSlot test (suc n) = not (test n) && noSlot test n
-
 module _ (keyLength : ℕ) (ring bytes lens input output scratch : List ℕ) where
-  -- the ring's rows: 1, 11 and those that the C interface puts behind them;
-  -- then those of one key from 2 on, with 8 where no slot's key opens
-  abbrev pub ringTable : List Row → List Row
-  ringTable behind =
-      ringRows keyLength (length ring) ++ behind ++ (row 2 (ltb 126 (length lens)) ∷ row 3 (not (eqb (total lens) (length bytes))) ∷ [])
-      ++ openRows (length input) (length output) (length scratch)
-      ++ (row 8 (noSlot (λ i. genuine (slotKey keyLength ring i) (strings bytes lens) input) (slotCount keyLength (length ring))) ∷ [])
+  abbrev slots : ℕ
+  slots = length ring / keyLength
 
-  -- the work for so many keys: one key's, times their number
-  abbrev triedKeys : ℕ → ℕ
-  triedKeys n = n * blockWork lens (length input - 16)
+  -- from Rattle and from C; 8 where no slot's key opens
+  abbrev pub ringTable : Type 0 → List Row
+  ringTable emptyNonce =
+      row 1 (IsKeyLength keyLength → ⊥)
+      ∷ row 11 (IsRingLength keyLength (length ring) → ⊥)
+      ∷ row 10 emptyNonce
+      ∷ row 2 (126 < length lens)
+      ∷ row 3 (sum lens ≡ length bytes → ⊥)
+      ∷ row 5 (length input < 16)
+      ∷ row 4 (1048592 < length input)
+      ∷ row 6 (length output < length input - 16)
+      ∷ row 7 (length scratch < max (length input - 16) 16)
+      ∷ row 8 ((i : ℕ) → i < slots → Genuine (keyIn keyLength ring i) (strings bytes lens) input → ⊥)
+      ∷ []
 
-  -- an opening under the ring by its table: the buffers are as after an opening under one key, the slot's;
-  -- a refusal gives slot 0; the keys up to that slot were tried, or all of them
-  pub record FirstRing (table : List Row) (result : RingResult) : Type 0 where
-    pub ordered : keeps order table ≡ true
-    pub first : FirstDue table (result .call .outcome .number)
-    pub done : result .call .outcome .number ≡ 0
-        → Leaves (result .call) (success (length input - 16) (triedKeys (result .slot + 1))) (put output 0 (opened (slotKey keyLength ring (result .slot)) input)) (cleared scratch (length input - 16))
-    pub forged : result .call .outcome .number ≡ 8
-        → Leaves (result .call) (forged (triedKeys (slotCount keyLength (length ring)))) (put output 0 (replicate (length input - 16) 0)) (cleared scratch (length input - 16))
-    pub refused : (n : ℕ) → result .call .outcome .number ≡ n → (n ≡ 0 → ⊥) → (n ≡ 8 → ⊥) → Leaves (result .call) (refusal n) output scratch
-    pub slotless : (result .call .outcome .number ≡ 0 → ⊥) → result .slot ≡ 0
-
--- ---- the worst header list
-
--- the call by its table: the places past k are zero, and with a refusal all of them and the blocks
-pub record FirstWorst (h k least : ℕ) (outcome : Outcome) (places : List ℕ) (blocks : ℕ) : Type 0 where
-  pub ordered : keeps order (planRows h k least) ≡ true
-  pub first : FirstDue (planRows h k least) (outcome .number)
-  pub done : outcome .number ≡ 0 → (outcome ≡ success 0 0) × IsWorst h k least places blocks
-  pub past : outcome .number ≡ 0 → drop k places ≡ replicate (126 - k) 0
-  pub refused : (n : ℕ) → outcome .number ≡ n → (n ≡ 0 → ⊥) → (outcome ≡ refusal n) × (places ≡ replicate 126 0) × (blocks ≡ 0)
+  -- the buffers are as after an opening under one key, the slot's; a refusal gives slot 0;
+  -- the work is one key's for each that was tried: up to that slot, or all
+  abbrev pub FirstRing : Type 0 → RingResult → Type 0
+  FirstRing emptyNonce result =
+      let n = length input - 16 in
+      let work = wholeWork lens n in
+      ByTable RingResult (ringTable emptyNonce) (result .call .outcome .number) result
+      (record {
+        slot = result .slot;
+        call = called 0 n ((result .slot + 1) * work) (over output 0 (opened (keyIn keyLength ring (result .slot)) input)) (cleared scratch n);
+      })
+      (λ number.
+      record {
+        slot = 0;
+        call = cond (eqb number 8) (called 8 0 (slots * work) (over output 0 (replicate n 0)) (cleared scratch n)) (called number 0 0 output scratch);
+      })
 
 -- ---- the number that C gets
 
@@ -149,55 +149,82 @@ pub record Parts (given number slot count : ℕ) : Type 0 where
   pub middle : given / 268435456 % 16 ≡ slot
   pub low : given % 268435456 ≡ count
 
--- ---- a head
+-- ---- the worst header list
 
--- the rows of a head and the strings that follow its own:
--- of the head 9 judges the key width and the count, and nothing else
-abbrev pub restTable : Head → List ℕ → ℕ → List Row
-restTable h lens restLength =
-    row 9 (not (isWidth (h .width) && not (ltb 126 (h .count)))) ∷ row 2 (ltb 126 (h .count + length lens)) ∷ row 3 (not (eqb (total lens) restLength)) ∷ []
+-- k lengths with the sum h, none below the least
+pub record IsList (h k least : ℕ) (lens : List ℕ) : Type 0 where
+  pub count : length lens ≡ k
+  pub sums : sum lens ≡ h
+  pub each : (i : ℕ) → i < k → least ≤ getD lens i 0
 
--- a call that makes a head, by its table: a refusal has a head that is all zero
-pub record FirstHead (table : List Row) (result : MakeResult) (work : ℕ) (complete : Head) : Type 0 where
-  pub ordered : keeps order table ≡ true
-  pub first : FirstDue table (result .outcome .number)
-  pub done : result .outcome .number ≡ 0 → result ≡ madeHead work complete
-  pub refused : (n : ℕ) → result .outcome .number ≡ n → (n ≡ 0 → ⊥) → result ≡ record { outcome = refusal n; head = zeroHead }
+-- 126 places, the first k of them such a list and the others zero, and its blocks; no other such list has more
+pub record IsWorstList (h k least : ℕ) (places : List ℕ) (blocks : ℕ) : Type 0 where
+  pub given : IsList h k least (take k places)
+  pub past : drop k places ≡ replicate (126 - k) 0
+  pub counted : blocks ≡ headerBlocks (take k places)
+  pub most : (other : List ℕ) → IsList h k least other → headerBlocks other ≤ blocks
 
--- ---- piecewise calls
+abbrev pub worstTable : ℕ → ℕ → ℕ → List Row
+worstTable h k least =
+    row 12 ((k < 1) ⊎ (126 < k) ⊎ ((least ≡ 0 → ⊥) × (least ≡ 1 → ⊥)) ⊎ (1048576 < h) ⊎ (h < k * least))
+    ∷ []
 
--- a call by its table: a refusal returns state and output as given
-pub record FirstStep (table : List Row) (result complete : StepResult) (s : Stream) (output : List ℕ) : Type 0 where
-  pub ordered : keeps order table ≡ true
-  pub first : FirstDue table (result .outcome .number)
-  pub done : result .outcome .number ≡ 0 → result ≡ complete
-  pub refused : (n : ℕ) → result .outcome .number ≡ n → (n ≡ 0 → ⊥) → result ≡ refusedStep n s output
+-- the call by its table: which of several worst lists is given stays open; with 12 all places and the blocks are zero
+pub record FirstWorst (h k least : ℕ) (outcome : Outcome) (places : List ℕ) (blocks : ℕ) : Type 0 where
+  pub answer : outcome ≡ told (outcome .number) 0 0
+  pub first : FirstDue (worstTable h k least) (outcome .number)
+  pub done : outcome .number ≡ 0 → IsWorstList h k least places blocks
+  pub refused : outcome .number ≡ 12 → (places ≡ replicate 126 0) × (blocks ≡ 0)
 
--- finish: 8 ends the state and wipes the output's first total bytes, and took the work that success takes
-pub record FirstFinish (s : Stream) (output : List ℕ) : Type 0 where
-  pub ordered : keeps order (finishTable s output) ≡ true
-  pub first : FirstDue (finishTable s output) (finishStep s output .outcome .number)
-  pub done : finishStep s output .outcome .number ≡ 0 → finishStep s output ≡ doneStep (s .total) (tagOfStateWork s) ended output
-  pub forged : finishStep s output .outcome .number ≡ 8 → finishStep s output ≡ forgedStep s output
-  pub refused : (n : ℕ) → finishStep s output .outcome .number ≡ n → (n ≡ 0 → ⊥) → (n ≡ 8 → ⊥) → finishStep s output ≡ refusedStep n s output
+-- ---- heads and begins
 
--- The first demand, on all input bytes, lengths, heads and stream states;
--- number, length and work tell an answer and its work.
+-- the refusals of a key and a header list, and of an opener's tag
+abbrev pub headerTable : List ℕ → List ℕ → List ℕ → Type 0 → List Row
+headerTable key bytes lens otherTag =
+    row 1 (IsKeyLength (length key) → ⊥)
+    ∷ row 2 (126 < length lens)
+    ∷ row 3 (sum lens ≡ length bytes → ⊥)
+    ∷ row 5 otherTag
+    ∷ []
+
+-- of a head and the strings that follow its own: of the head 9 judges the key width and the count, and nothing else
+abbrev pub restTable : Head → List ℕ → List ℕ → Type 0 → List Row
+restTable h bytes lens otherTag =
+    row 9 ((IsKeyWidth (h .width) → ⊥) ⊎ (126 < h .count))
+    ∷ row 2 (126 < h .count + length lens)
+    ∷ row 3 (sum lens ≡ length bytes → ⊥)
+    ∷ row 5 otherTag
+    ∷ []
+
+-- a call that makes a head: a refusal has a head that is all zero
+abbrev pub FirstHead : List Row → MakeResult → ℕ → Head → Type 0
+FirstHead table result work head =
+    ByTable MakeResult table (result .outcome .number) result (record { outcome = told 0 0 work; head = head })
+    (λ n. record { outcome = told n 0 0; head = blankHead })
+
+-- a begin: a refusal has the ended state
+abbrev pub FirstBegin : List Row → StepResult → ℕ → Stream → Type 0
+FirstBegin table result work state =
+    ByTable StepResult table (result .outcome .number) result (stepped 0 0 work state []) (λ n. stepped n 0 0 blankState [])
+
+-- The first demand, on all input bytes, lengths, heads and stream states.
 pub record First : Type 0 where
-  pub sealing : (key bytes lens input output scratch : List ℕ) → FirstSeal key bytes lens input output scratch
-  pub opening : (key bytes lens input output scratch : List ℕ) → FirstOpen key bytes lens input output scratch
-  pub sealingFromC : (key header input output scratch : List ℕ) (ad nonce : ℕ)
-      → FirstFromC (sealTable key header (aeadLens ad nonce) input output scratch) nonce output scratch (sealCall key header (aeadLens ad nonce) input output scratch)
-      (sealFromC key header ad nonce input output scratch)
-  pub openingFromC : (key header input output scratch : List ℕ) (ad nonce : ℕ)
-      → FirstFromC (openTable key header (aeadLens ad nonce) input output scratch) nonce output scratch (openCall key header (aeadLens ad nonce) input output scratch)
-      (openFromC key header ad nonce input output scratch)
+  pub numbers : (w : ℕ) → Numbers w
+  -- number, length and work tell an answer and its work
+  pub outcomeTells : (a b : Answer) (w w′ : ℕ) → outcomeOf a w ≡ outcomeOf b w′ → (a ≡ b) × (w ≡ w′)
+  pub sealing : (key bytes lens input output scratch : List ℕ)
+      → FirstSeal key bytes lens input output scratch ⊥ (sealCall key bytes lens input output scratch)
+  pub opening : (key bytes lens input output scratch : List ℕ)
+      → FirstOpen key bytes lens input output scratch ⊥ (openCall key bytes lens input output scratch)
   pub openingRing : (keyLength : ℕ) (ring bytes lens input output scratch : List ℕ)
-      → FirstRing keyLength ring bytes lens input output scratch (ringTable keyLength ring bytes lens input output scratch [])
-      (openRing keyLength ring bytes lens input output scratch)
+      → FirstRing keyLength ring bytes lens input output scratch ⊥ (openRing keyLength ring bytes lens input output scratch)
+  -- from C the header list is associated data, then nonce
+  pub sealingFromC : (key header input output scratch : List ℕ) (ad nonce : ℕ)
+      → FirstSeal key header (ad ∷ nonce ∷ []) input output scratch (nonce ≡ 0) (sealFromC key header ad nonce input output scratch)
+  pub openingFromC : (key header input output scratch : List ℕ) (ad nonce : ℕ)
+      → FirstOpen key header (ad ∷ nonce ∷ []) input output scratch (nonce ≡ 0) (openFromC key header ad nonce input output scratch)
   pub openingRingFromC : (keyLength : ℕ) (ring header input output scratch : List ℕ) (ad nonce : ℕ)
-      → FirstRing keyLength ring header (aeadLens ad nonce) input output scratch
-      (ringTable keyLength ring header (aeadLens ad nonce) input output scratch (row 10 (eqb nonce 0) ∷ []))
+      → FirstRing keyLength ring header (ad ∷ nonce ∷ []) input output scratch (nonce ≡ 0)
       (openRingFromC keyLength ring header ad nonce input output scratch)
   pub sealingParts : (key header input output scratch : List ℕ) (ad nonce : ℕ)
       → let o = sealFromC key header ad nonce input output scratch .outcome in
@@ -211,37 +238,25 @@ pub record First : Type 0 where
   pub findingWorst : (h k least : ℕ) (outcome : Outcome) (places : List ℕ) (blocks : ℕ) → GivesWorst h k least outcome places blocks
       → FirstWorst h k least outcome places blocks
   pub findingWorstFromC : (h k least : ℕ) (places : List ℕ) (given : ℕ) → GivesWorstFromC h k least places given
-      → FirstWorst h k least (refusal (given / 4294967296)) places (given % 4294967296)
+      → FirstWorst h k least (told (given / 4294967296) 0 0) places (given % 4294967296)
   pub makingHead : (key bytes lens : List ℕ)
-      → FirstHead (headerRows (length key) lens (length bytes)) (makeHead key bytes lens) (2 + blocksOfAll lens) (headOf key (strings bytes lens))
+      → FirstHead (headerTable key bytes lens ⊥) (makeHead key bytes lens) (2 + headerBlocks lens) (preparedHead key (strings bytes lens))
   pub extendingHead : (h : Head) (bytes lens : List ℕ)
-      → FirstHead (restTable h lens (length bytes)) (extendHead h bytes lens) (blocksOfAll lens) (extended h (strings bytes lens))
+      → FirstHead (restTable h bytes lens ⊥) (extendHead h bytes lens) (headerBlocks lens) (longerHead h (strings bytes lens))
+  -- stage 1 with V zero for a sealer, stage 3 with the tag for an opener
   pub beginningSealer : (key bytes lens : List ℕ)
-      → FirstStep (headerRows (length key) lens (length bytes)) (beginSealer key bytes lens)
-      (doneStep 0 (2 + blocksOfAll lens) (start (headOf key (strings bytes lens)) 1 zeros) []) ended []
+      → FirstBegin (headerTable key bytes lens ⊥) (beginSealer key bytes lens) (2 + headerBlocks lens)
+      (begunState (preparedHead key (strings bytes lens)) 1 (replicate 16 0))
   pub beginningOpener : (key bytes lens tag : List ℕ)
-      → FirstStep (headerRows (length key) lens (length bytes) ++ tagRows (length tag)) (beginOpener key bytes lens tag)
-      (doneStep 0 (2 + blocksOfAll lens) (start (headOf key (strings bytes lens)) 3 tag) []) ended []
+      → FirstBegin (headerTable key bytes lens (length tag ≡ 16 → ⊥)) (beginOpener key bytes lens tag) (2 + headerBlocks lens)
+      (begunState (preparedHead key (strings bytes lens)) 3 tag)
   pub beginningSealerFrom : (h : Head) (bytes lens : List ℕ)
-      → FirstStep (restTable h lens (length bytes)) (beginSealerFrom h bytes lens)
-      (doneStep 0 (blocksOfAll lens) (start (extended h (strings bytes lens)) 1 zeros) []) ended []
+      → FirstBegin (restTable h bytes lens ⊥) (beginSealerFrom h bytes lens) (headerBlocks lens)
+      (begunState (longerHead h (strings bytes lens)) 1 (replicate 16 0))
   pub beginningOpenerFrom : (h : Head) (bytes lens tag : List ℕ)
-      → FirstStep (restTable h lens (length bytes) ++ tagRows (length tag)) (beginOpenerFrom h bytes lens tag)
-      (doneStep 0 (blocksOfAll lens) (start (extended h (strings bytes lens)) 3 tag) []) ended []
-  pub adding : (s : Stream) (piece : List ℕ) → FirstStep (addRows s (length piece)) (addStep s piece)
-      (doneStep 0 (chained (s .total + length piece) - chained (s .total)) (added s piece) []) s []
-  pub turning : (s : Stream) (output : List ℕ)
-      → FirstStep (turnRows s (length output)) (turnStep s output)
-      (doneStep 16 (tagOfStateWork s) (turned s (tagOfState s)) (put output 0 (tagOfState s))) s output
-  pub writing : (s : Stream) (piece output : List ℕ)
-      → FirstStep (writeRows s (length piece) (length output)) (writeStep s piece output)
-      (doneStep (length piece) (sixteenths (s .written + length piece) - sixteenths (s .written)) (wrote s (length piece)) (put output 0 (streamedAt s (s .written) piece))) s output
-  pub closing : (s : Stream) → FirstStep (closeRows s) (closeStep s) (doneStep 0 0 ended []) s []
-  pub feeding : (s : Stream) (piece output : List ℕ)
-      → FirstStep (feedRows s (length piece) (length output)) (feedStep s piece output)
-      (doneStep (length piece)
-      ((sixteenths (s .total + length piece) - sixteenths (s .total)) + (chained (s .total + length piece) - chained (s .total)))
-      (added (deciphered s (length piece)) (streamedAt s (s .total) piece))
-      (put output (s .total) (streamedAt s (s .total) piece))) s output
-  pub finishing : (s : Stream) (output : List ℕ) → FirstFinish s output
-  pub outcomeTells : (a b : Answer) (w w′ : ℕ) → outcomeOf a w ≡ outcomeOf b w′ → (a ≡ b) × (w ≡ w′)
+      → FirstBegin (restTable h bytes lens (length tag ≡ 16 → ⊥)) (beginOpenerFrom h bytes lens tag) (headerBlocks lens)
+      (begunState (longerHead h (strings bytes lens)) 3 tag)
+  -- the six calls, on any state of their type
+  pub calling : (s : Stream) (shared : List ℕ) (c : Call) → Sized s
+      → ByTable StepResult (stepTable Nine s shared c) (call s shared c .outcome .number) (call s shared c) (stepDone s shared c)
+      (stepLeft s shared c)

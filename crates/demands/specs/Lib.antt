@@ -1,3 +1,7 @@
+pub mod Figures
+pub mod Table
+pub mod State
+pub mod Steps
 pub mod Cases
 pub mod First
 pub mod Second

@@ -1,18 +1,17 @@
 -- The reference model, "the plain book" of document 01: what every list of piecewise calls gives,
 -- told from the arguments of begin and of the calls alone; with the work of slip 5 of document 02, from lengths alone.
 -- Assumes nothing.
-use mathlib.Core.Bool.{Bool, false, not, cond, _||_}
+use mathlib.Core.Bool.{Bool, false, cond, _||_}
 use mathlib.Core.List.{List, [], _∷_, _++_}
-use Prim.Native.Nat.{ℕ, _+_, _-_, _/_}
+use Prim.Native.Nat.{ℕ, _+_, _-_, max}
 use lib.Dec.{eqb, ltb}
 use lib.ListN.{length, drop, replicate}
-use Rattle.octets.specs.Octets.{put}
 use Rattle.header.specs.Header.{strings}
-use Rattle.header.specs.Blocks.{sixteenths, blocksOf}
-use Rattle.answers.specs.Answer.{Row, row, first, refusal}
-use Rattle.whole.specs.Calls.{limit, scratchNeed, openNumber}
+use Rattle.whole.specs.Calls.{openCall}
 use Rattle.whole.specs.Siv.{tagOf, streamed, opened}
+use Rattle.demands.specs.Figures.{over, chained, sixteenths, blocks}
 use Rattle.demands.specs.Run.{Begin, sealer, opener, Call, add, turn, write, close, feed, finish, Entry}
+use Rattle.demands.specs.Table.{told}
 
 -- what the model keeps: a stage, A, the bytes added or fed, and W, those written
 pub record ModelState : Type 0 where
@@ -34,11 +33,6 @@ wants close = 2
 wants (feed piece) = 3
 wants finish = 3
 
--- how many blocks of n bytes the CMAC's chain has taken while their end is not known:
--- the hold of document 01 stands behind them
-abbrev pub chained : ℕ → ℕ
-chained n = n / 16 - 1
-
 -- what the model keeps after a call, and what the call gave
 pub record After : Type 0 where
   pub model : ModelState
@@ -57,7 +51,7 @@ module _ (key bytes lens : List ℕ) where
 
   -- whether whole opening, with buffers as large as it needs, accepts T followed by A
   unfoldable pub wholeAccepts : List ℕ → List ℕ → Bool
-  wholeAccepts T A = eqb (openNumber key bytes lens (T ++ A) (replicate (length A) 0) (replicate (scratchNeed (length A)) 0)) 0
+  wholeAccepts T A = eqb (openCall key bytes lens (T ++ A) (replicate (length A) 0) (replicate (max (length A) 16) 0) .outcome .number) 0
 
   -- which begin, and the output shared by feed and finish as it was at first
   module _ (begin : Begin) (shared : List ℕ) where
@@ -66,8 +60,8 @@ module _ (key bytes lens : List ℕ) where
     abbrev shownBy : Begin → ModelState → List ℕ
     shownBy sealer b = shared
     shownBy (opener T) b =
-        cond (eqb (b .stage) 3) (put shared 0 (streamed key T (b .A)))
-        (put shared 0 (cond (wholeAccepts T (b .A)) (opened key (T ++ b .A)) (replicate (length (b .A)) 0)))
+        cond (eqb (b .stage) 3) (over shared 0 (streamed key T (b .A)))
+        (over shared 0 (cond (wholeAccepts T (b .A)) (opened key (T ++ b .A)) (replicate (length (b .A)) 0)))
 
     -- the same, of the list's own begin
     abbrev pub shown : ModelState → List ℕ
@@ -78,14 +72,14 @@ module _ (key bytes lens : List ℕ) where
     acceptsBy sealer A = false
     acceptsBy (opener T) A = wholeAccepts T A
 
-    -- the refusals of a call in the stage that it wants
-    abbrev pub refusals : ModelState → Call → List Row
-    refusals b (add piece) = row 4 (ltb limit (length (b .A ++ piece))) ∷ []
-    refusals b (turn output) = row 6 (ltb (length output) 16) ∷ []
-    refusals b (write piece output) = row 4 (ltb (length (b .A)) (length (b .W ++ piece))) ∷ row 6 (ltb (length output) (length piece)) ∷ []
-    refusals b close = row 9 (ltb (length (b .W)) (length (b .A))) ∷ []
-    refusals b (feed piece) = row 4 (ltb limit (length (b .A ++ piece))) ∷ row 6 (ltb (length shared) (length (b .A ++ piece))) ∷ []
-    refusals b finish = row 8 (not (acceptsBy begin (b .A))) ∷ []
+    -- the number that a call gives in the stage that it wants
+    abbrev pub judged : ModelState → Call → ℕ
+    judged b (add piece) = cond (ltb 1048576 (length (b .A ++ piece))) 4 0
+    judged b (turn output) = cond (ltb (length output) 16) 6 0
+    judged b (write piece output) = cond (ltb (length (b .A)) (length (b .W ++ piece))) 4 (cond (ltb (length output) (length piece)) 6 0)
+    judged b close = cond (ltb (length (b .W)) (length (b .A))) 9 0
+    judged b (feed piece) = cond (ltb 1048576 (length (b .A ++ piece))) 4 (cond (ltb (length shared) (length (b .A ++ piece))) 6 0)
+    judged b finish = cond (acceptsBy begin (b .A)) 0 8
 
     -- what the model keeps after success, and after 8
     abbrev pub modelAfter : ModelState → Call → ModelState
@@ -109,12 +103,12 @@ module _ (key bytes lens : List ℕ) where
     -- those that the tag is made with, and those of the key stream that are begun
     abbrev pub workAfter : ModelState → Call → ℕ
     workAfter b (add piece) = chained (length (b .A ++ piece)) - chained (length (b .A))
-    workAfter b (turn output) = blocksOf (length (b .A)) - chained (length (b .A))
+    workAfter b (turn output) = blocks (length (b .A)) - chained (length (b .A))
     workAfter b (write piece output) = sixteenths (length (b .W ++ piece)) - sixteenths (length (b .W))
     workAfter b close = 0
     workAfter b (feed piece) =
         (sixteenths (length (b .A ++ piece)) - sixteenths (length (b .A))) + (chained (length (b .A ++ piece)) - chained (length (b .A)))
-    workAfter b finish = blocksOf (length (b .A)) - chained (length (b .A))
+    workAfter b finish = blocks (length (b .A)) - chained (length (b .A))
 
     -- the output lent to a call, before it; add and close are lent none
     abbrev pub outputBefore : ModelState → Call → List ℕ
@@ -129,15 +123,15 @@ module _ (key bytes lens : List ℕ) where
     -- and the writes' bytes, joined, are W xor the key stream of that tag
     abbrev pub outputAfter : ModelState → Call → List ℕ
     outputAfter b (add piece) = []
-    outputAfter b (turn output) = put output 0 (sealTag (b .A))
-    outputAfter b (write piece output) = put output 0 (drop (length (b .W)) (streamed key (sealTag (b .A)) (b .W ++ piece)))
+    outputAfter b (turn output) = over output 0 (sealTag (b .A))
+    outputAfter b (write piece output) = over output 0 (drop (length (b .W)) (streamed key (sealTag (b .A)) (b .W ++ piece)))
     outputAfter b close = []
     outputAfter b (feed piece) = shown (modelAfter b (feed piece))
     outputAfter b finish = shown (modelAfter b finish)
 
-    -- the number that a call gives: 9 in a stage that it does not want, else by its refusals
+    -- and in any: 9 in a stage that it does not want
     abbrev pub modelNumber : ModelState → Call → ℕ
-    modelNumber b c = first (row 9 (not (eqb (b .stage) (wants c))) ∷ refusals b c)
+    modelNumber b c = cond (eqb (b .stage) (wants c)) (judged b c) 9
 
     -- a call: a refusal has length 0 and, but for 8, no work, and changes neither what the model keeps nor outputs
     unfoldable pub modelStep : ModelState → Call → After
@@ -146,9 +140,9 @@ module _ (key bytes lens : List ℕ) where
         cond (eqb n 0 || eqb n 8)
         (record {
           model = modelAfter b c;
-          entry = record { outcome = record { number = n; count = cond (eqb n 0) (countAfter b c) 0; work = workAfter b c }; output = outputAfter b c };
+          entry = record { outcome = told n (cond (eqb n 0) (countAfter b c) 0) (workAfter b c); output = outputAfter b c };
         })
-        (record { model = b; entry = record { outcome = refusal n; output = outputBefore b c } })
+        (record { model = b; entry = record { outcome = told n 0 0; output = outputBefore b c } })
 
     abbrev pub modelRun : ModelState → List Call → ModelRun
     modelRun b [] = record { entries = []; model = b }

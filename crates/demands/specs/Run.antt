@@ -3,12 +3,12 @@
 use mathlib.Core.List.{List, [], _∷_}
 use Prim.Native.Nat.{ℕ}
 use lib.ListN.{take, drop}
-use Rattle.header.specs.Header.{total}
 use Rattle.answers.specs.Answer.{Outcome}
 use Rattle.head.specs.declared.Head.{Head}
 use Rattle.head.specs.Head.{MakeResult, makeHead}
 use Rattle.stream.specs.declared.Stream.{Stream}
 use Rattle.stream.specs.Steps.{StepResult, beginSealer, beginOpener, beginSealerFrom, beginOpenerFrom, addStep, turnStep, writeStep, closeStep, feedStep, finishStep}
+use Rattle.demands.specs.Figures.{sum}
 
 -- which begin a list of calls starts from; the opener's has a tag
 pub data Begin : Type 0 where
@@ -40,10 +40,10 @@ begunFrom h bytes lens (opener T) = beginOpenerFrom h bytes lens T
 module _ (key bytes lens : List ℕ) where
   -- the bytes of the first n strings, and of the others
   abbrev pub firstBytes : ℕ → List ℕ
-  firstBytes n = take (total (take n lens)) bytes
+  firstBytes n = take (sum (take n lens)) bytes
 
   abbrev pub restBytes : ℕ → List ℕ
-  restBytes n = drop (total (take n lens)) bytes
+  restBytes n = drop (sum (take n lens)) bytes
 
   -- what making a head from the first n strings gave
   abbrev pub firstHead : ℕ → MakeResult
@@ -94,14 +94,10 @@ pub record Run : Type 0 where
   pub shared : List ℕ
 
 -- each call gets the state that the last one returned,
--- and feed and finish the output as the last one left it; `gives` says what a call gives
-abbrev pub runBy : (Stream → List ℕ → Call → StepResult) → Stream → List ℕ → List Call → Run
-runBy gives s shared [] = record { entries = []; state = s; shared = shared }
-runBy gives s shared (c ∷ cs) =
-    let r = gives s shared c in
-    let rest = runBy gives (r .state) (sharedAfter shared c (r .output)) cs in
-    record { entries = record { outcome = r .outcome; output = r .output } ∷ rest .entries; state = rest .state; shared = rest .shared }
-
--- by the calls' definitions
+-- and feed and finish the output as the last one left it
 abbrev pub run : Stream → List ℕ → List Call → Run
-run = runBy call
+run s shared [] = record { entries = []; state = s; shared = shared }
+run s shared (c ∷ cs) =
+    let r = call s shared c in
+    let rest = run (r .state) (sharedAfter shared c (r .output)) cs in
+    record { entries = record { outcome = r .outcome; output = r .output } ∷ rest .entries; state = rest .state; shared = rest .shared }

@@ -1,32 +1,30 @@
 -- The second demand, as a statement about the calls' definitions.
 -- Assumes nothing.
 use mathlib.Core.Path.{_≡_}
-use mathlib.Core.Bool.{true}
 use mathlib.Core.List.{List}
-use Prim.Native.Nat.{ℕ, _+_, _≤_}
+use Prim.Native.Nat.{ℕ, _+_, _≤_, max}
 use lib.ListN.{length}
-use Rattle.octets.specs.Octets.{put}
-use Rattle.header.specs.Header.{total, strings}
-use Rattle.answers.specs.Answer.{success}
-use Rattle.whole.specs.Calls.{CallResult, isKeyLength, limit, scratchNeed, sealCall, openCall}
+use Rattle.header.specs.Header.{strings}
+use Rattle.whole.specs.Calls.{CallResult, sealCall, openCall}
 use Rattle.whole.specs.Siv.{sealed}
-use Rattle.whole.specs.Work.{blockWork}
+use Rattle.demands.specs.Figures.{IsKeyLength, over, sum, wholeWork}
+use Rattle.demands.specs.Table.{told}
 
 -- a key and a header list that document 01 admits
 pub record Admits (key bytes lens : List ℕ) : Type 0 where
-  pub keyed : isKeyLength (length key) ≡ true
+  pub keyed : IsKeyLength (length key)
   pub countFits : length lens ≤ 126
-  pub sums : total lens ≡ length bytes
+  pub sums : sum lens ≡ length bytes
 
 -- a call succeeded, with the work that slip 5 of document 02 says,
 -- and put s, and nothing else, to the front of the output
 abbrev pub Gives : CallResult → ℕ → List ℕ → List ℕ → Type 0
-Gives result work output s = (result .outcome ≡ success (length s) work) × (result .output ≡ put output 0 s)
+Gives result work output s = (result .outcome ≡ told 0 (length s) work) × (result .output ≡ over output 0 s)
 
 -- The second demand: sealing gives the bytes of RFC 5297 over FIPS 197's AES,
 -- and opening returns the plaintext that was sealed.
 pub record Second : Type 0 where
-  pub seals : (key bytes lens p output scratch : List ℕ) → Admits key bytes lens → length p ≤ limit → length p + 16 ≤ length output
-      → scratchNeed (length p) ≤ length scratch → Gives (sealCall key bytes lens p output scratch) (blockWork lens (length p)) output (sealed key (strings bytes lens) p)
-  pub opens : (key bytes lens p output scratch : List ℕ) → Admits key bytes lens → length p ≤ limit → length p ≤ length output
-      → scratchNeed (length p) ≤ length scratch → Gives (openCall key bytes lens (sealed key (strings bytes lens) p) output scratch) (blockWork lens (length p)) output p
+  pub seals : (key bytes lens p output scratch : List ℕ) → Admits key bytes lens → length p ≤ 1048576 → length p + 16 ≤ length output
+      → max (length p) 16 ≤ length scratch → Gives (sealCall key bytes lens p output scratch) (wholeWork lens (length p)) output (sealed key (strings bytes lens) p)
+  pub opens : (key bytes lens p output scratch : List ℕ) → Admits key bytes lens → length p ≤ 1048576 → length p ≤ length output
+      → max (length p) 16 ≤ length scratch → Gives (openCall key bytes lens (sealed key (strings bytes lens) p) output scratch) (wholeWork lens (length p)) output p

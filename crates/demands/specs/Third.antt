@@ -4,20 +4,21 @@
 use mathlib.Core.Path.{_≡_}
 use mathlib.Core.Bool.{Bool, true, false, cond}
 use mathlib.Core.List.{List, [], _∷_, _++_}
-use Prim.Native.Nat.{ℕ, _+_, _-_, _≤_}
+use Prim.Native.Nat.{ℕ, _+_, _-_, _≤_, max}
 use lib.Dec.{eqb}
 use lib.ListN.{length, take, drop, replicate}
-use Rattle.octets.specs.Octets.{put}
+use Rattle.aes.specs.Aes.{aes}
 use Rattle.header.specs.Header.{strings}
-use Rattle.header.specs.Blocks.{blocksOfAll}
-use Rattle.answers.specs.Answer.{success}
-use Rattle.whole.specs.Calls.{scratchNeed, openCall}
-use Rattle.whole.specs.Siv.{streamed, sealed}
-use Rattle.stream.specs.State.{ended}
+use Rattle.whole.specs.Calls.{openCall}
+use Rattle.whole.specs.Siv.{ctrKey, streamed, sealed}
+use Rattle.stream.specs.declared.Stream.{Stream}
 use Rattle.stream.specs.Steps.{StepResult, finishStep}
+use Rattle.demands.specs.Figures.{over, headerBlocks}
 use Rattle.demands.specs.Model.{ModelState, fresh, ModelRun, sealTag, shown, modelRun}
 use Rattle.demands.specs.Run.{Begin, sealer, opener, Start, undivided, divided, Call, add, turn, write, close, feed, finish, begun, Entry, Run, run}
 use Rattle.demands.specs.Second.{Admits}
+use Rattle.demands.specs.State.{begunBy, blankState, stateOf}
+use Rattle.demands.specs.Table.{told}
 use Rattle.demands.specs.Whole.{ThirdWhole}
 
 -- the same bytes in one piece: one add of A in stage 1;
@@ -53,10 +54,22 @@ noFinish (finish ∷ cs) = false
 
 -- the work of begin: 2 and the blocks of all header strings; from a head, those of the strings behind its own
 abbrev pub beginWork : List ℕ → Start → ℕ
-beginWork lens undivided = 2 + blocksOfAll lens
-beginWork lens (divided n) = blocksOfAll (drop n lens)
+beginWork lens undivided = 2 + headerBlocks lens
+beginWork lens (divided n) = headerBlocks (drop n lens)
 
 module _ (key bytes lens : List ℕ) where
+  -- the state that the model's stage and strings stand for: V is zero in stage 1, the tag of A in stage 2, T in stage 3,
+  -- whose plaintext is what was fed xor the key stream of T; the block that is begun is kept; all is zero in stage 0
+  abbrev pub stateBy : Begin → ModelState → Stream
+  stateBy sealer b =
+      let ss = strings bytes lens in
+      let v = sealTag key bytes lens (b .A) in
+      cond (eqb (b .stage) 1) (stateOf key ss 1 (replicate 16 0) (replicate 16 0) 0 (b .A))
+      (cond (eqb (b .stage) 2) (stateOf key ss 2 v (begunBy (aes (ctrKey key)) v (length (b .W))) (length (b .W)) (b .A)) blankState)
+  stateBy (opener T) b =
+      let ss = strings bytes lens in
+      cond (eqb (b .stage) 3) (stateOf key ss 3 T (begunBy (aes (ctrKey key)) T (length (b .A))) 0 (streamed key T (b .A))) blankState
+
   -- any list of calls, refused ones included, after either begin,
   -- from the whole list or from a head, with any shared output
   module _ (begin : Begin) (shared : List ℕ) (calls : List Call) where
@@ -71,14 +84,15 @@ module _ (key bytes lens : List ℕ) where
 
       pub record AsModel : Type 0 where
         -- begin succeeds, with the work of all strings, or of those behind the head's
-        pub begins : begun key bytes lens start begin .outcome ≡ success 0 (beginWork lens start)
+        pub begins : begun key bytes lens start begin .outcome ≡ told 0 0 (beginWork lens start)
         -- all numbers, lengths, works and output bytes are the model's
         pub entries : ran .entries ≡ expected .entries
         pub output : ran .shared ≡ shown key bytes lens begin shared (expected .model)
-        -- the state is that of the same bytes given in one piece,
-        -- after the begin from the whole list; in stage 0 it is all zero
-        pub state : ran .state
-            ≡ cond (eqb (expected .model .stage) 0) ended (run (begun key bytes lens undivided begin .state) shared (onePiece (expected .model)) .state)
+        -- the state, field by field
+        pub state : ran .state ≡ stateBy begin (expected .model)
+        -- it is that of the same bytes given in one piece, after the begin from the whole list; all zero in stage 0
+        pub onePieceState : ran .state
+            ≡ cond (eqb (expected .model .stage) 0) blankState (run (begun key bytes lens undivided begin .state) shared (onePiece (expected .model)) .state)
 
   -- a sealer's list of calls
   module _ (shared : List ℕ) (calls : List Call) where
@@ -114,17 +128,17 @@ module _ (key bytes lens : List ℕ) where
       pub number : finished .outcome .number ≡ openCall key bytes lens (T ++ fed T shared calls) output scratch .outcome .number
       pub count : finished .outcome .count ≡ openCall key bytes lens (T ++ fed T shared calls) output scratch .outcome .count
       -- and its plaintext or zeros, and nothing else
-      pub plaintext : finished .output ≡ put shared 0 (take (length (fed T shared calls)) (openCall key bytes lens (T ++ fed T shared calls) output scratch .output))
+      pub plaintext : finished .output ≡ over shared 0 (take (length (fed T shared calls)) (openCall key bytes lens (T ++ fed T shared calls) output scratch .output))
 
 -- The third demand: any key and header list that document 01 admits;
 -- lists of calls start from all of it, or from a head of any of its first strings.
 pub record Third (key bytes lens : List ℕ) : Type 0 where
-  pub whole : (y output scratch : List ℕ) → length y - 16 ≤ length output → scratchNeed (length y - 16) ≤ length scratch → ThirdWhole key bytes lens y output scratch
+  pub whole : (y output scratch : List ℕ) → length y - 16 ≤ length output → max (length y - 16) 16 ≤ length scratch → ThirdWhole key bytes lens y output scratch
   pub sealers : (start : Start) (shared : List ℕ) (calls : List Call) → AsModel key bytes lens sealer shared calls start
   pub openers : (start : Start) (T shared : List ℕ) (calls : List Call) → length T ≡ 16 → AsModel key bytes lens (opener T) shared calls start
   pub seals : (start : Start) (shared : List ℕ) (calls : List Call) → AsSealed key bytes lens shared calls start
   pub opens : (start : Start) (T shared : List ℕ) (calls : List Call) (output scratch : List ℕ) → length T ≡ 16 → noFinish calls ≡ true
-      → length (fed key bytes lens T shared calls) ≤ length output → scratchNeed (length (fed key bytes lens T shared calls)) ≤ length scratch
+      → length (fed key bytes lens T shared calls) ≤ length output → max (length (fed key bytes lens T shared calls)) 16 ≤ length scratch
       → AsOpened key bytes lens T shared calls output scratch start
 
 abbrev pub ThirdDemand : Type 0

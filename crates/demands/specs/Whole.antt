@@ -2,34 +2,34 @@
 -- Assumes nothing.
 use mathlib.Core.Path.{_≡_}
 use mathlib.Core.List.{List}
-use Prim.Native.Nat.{ℕ, _+_, _-_, _≤_}
+use Prim.Native.Nat.{ℕ, _-_, _≤_}
 use lib.ListN.{length, replicate}
-use Rattle.octets.specs.Octets.{put}
 use Rattle.header.specs.Header.{strings}
-use Rattle.answers.specs.Answer.{forged}
-use Rattle.whole.specs.Calls.{CallResult, limit, openCall}
+use Rattle.whole.specs.Calls.{CallResult, openCall}
 use Rattle.whole.specs.Siv.{sealed}
-use Rattle.whole.specs.Work.{blockWork}
+use Rattle.demands.specs.Figures.{over, wholeWork}
 use Rattle.demands.specs.Second.{Gives}
+use Rattle.demands.specs.Table.{told}
 
 -- a call accepted s: number 0 and its length, and s, and nothing else, is at the front of the output
 abbrev pub Accepts : CallResult → List ℕ → List ℕ → Type 0
-Accepts result output s = (result .outcome .number ≡ 0) × (result .outcome .count ≡ length s) × (result .output ≡ put output 0 s)
+Accepts result output s = (result .outcome .number ≡ 0) × (result .outcome .count ≡ length s) × (result .output ≡ over output 0 s)
 
 -- P seals to y
 abbrev pub SealsTo : List ℕ → List ℕ → List ℕ → List ℕ → List ℕ → Type 0
-SealsTo key bytes lens y P = (length P ≤ limit) × (sealed key (strings bytes lens) P ≡ y)
+SealsTo key bytes lens y P = (length P ≤ 1048576) × (sealed key (strings bytes lens) P ≡ y)
 
 -- The third demand for whole calls: any admitted key and header list, any byte string y, buffers large enough.
 pub record ThirdWhole (key bytes lens y output scratch : List ℕ) : Type 0 where
   -- opening accepts y with P exactly when P is within the limit and sealing P gives y
   pub accepts : (P : List ℕ) → Accepts (openCall key bytes lens y output scratch) output P → SealsTo key bytes lens y P
-  pub accepted : (P : List ℕ) → SealsTo key bytes lens y P → Gives (openCall key bytes lens y output scratch) (blockWork lens (length P)) output P
+  pub accepted : (P : List ℕ) → SealsTo key bytes lens y P → Gives (openCall key bytes lens y output scratch) (wholeWork lens (length P)) output P
   -- at most one plaintext seals to y
   pub unique : (P Q : List ℕ) → SealsTo key bytes lens y P → SealsTo key bytes lens y Q → P ≡ Q
   -- where none does, opening refuses
   pub refuses : ((P : List ℕ) → SealsTo key bytes lens y P → ⊥) → openCall key bytes lens y output scratch .outcome .number ≡ 0 → ⊥
   -- and if y has 16 to 1,048,592 bytes, it refuses with 8,
   -- and every output byte that a plaintext would have taken is zero
-  pub wipes : ((P : List ℕ) → SealsTo key bytes lens y P → ⊥) → 16 ≤ length y → length y ≤ limit + 16
-      → (openCall key bytes lens y output scratch .outcome ≡ forged (blockWork lens (length y - 16))) × (openCall key bytes lens y output scratch .output ≡ put output 0 (replicate (length y - 16) 0))
+  pub wipes : ((P : List ℕ) → SealsTo key bytes lens y P → ⊥) → 16 ≤ length y → length y ≤ 1048592
+      → (openCall key bytes lens y output scratch .outcome ≡ told 8 0 (wholeWork lens (length y - 16)))
+      × (openCall key bytes lens y output scratch .output ≡ over output 0 (replicate (length y - 16) 0))

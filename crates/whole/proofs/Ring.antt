@@ -242,7 +242,7 @@ module _ (test : ℕ → Bool) (n : ℕ) where
         go false e s = none (λ i h. s .before i (omega arith) (omega (arith, ltb-false (end .slot) n e)))
 
     -- the slots up to it where it passes, or all, are those that were tried
-    chosen-tried : {s : ℕ} → 0 < n → Chosen test n s → cond (test s) (s + 1) n ≡ end .slot + cond (ltb (end .slot) (0 + n)) 1 0
+    pub chosen-tried : {s : ℕ} → 0 < n → Chosen test n s → cond (test s) (s + 1) n ≡ end .slot + cond (ltb (end .slot) (0 + n)) 1 0
     chosen-tried z (found {s} h t p) = go (decLt (end .slot) s) (decLt s (end .slot)) (ends test work 0 0 n)
       where
         go : Dec (end .slot < s) → Dec (s < end .slot) → Ends test 0 n (end .slot) → cond (test s) (s + 1) n ≡ end .slot + cond (ltb (end .slot) (0 + n)) 1 0
