@@ -1,10 +1,12 @@
 -- AES for the three key widths, and what the key expansion answers.
 -- Assumes nothing.
+use mathlib.Core.Path.{_≡_}
 use mathlib.Core.Bool.{Bool, cond, _||_}
 use mathlib.Core.List.{List}
 use Prim.Native.Nat.{ℕ}
 use lib.Dec.{eqb}
 use lib.ListN.{length, replicate}
+use Rattle.aes.specs.declared.KeyAnswer.{KeyAnswer}
 use Rattle.aes.specs.declared.KeyAnswer.the-variants.{Expanded, Refused}
 use Rattle.aes.specs.declared.Expansion.{Expansion}
 use Rattle.aes.specs.Cipher.{cipher}
@@ -18,8 +20,12 @@ isWidth n = eqb n 16 || eqb n 24 || eqb n 32
 unfoldable pub aes : List ℕ → List ℕ → List ℕ
 aes key block = cipher (length key) (roundKeys key) block
 
--- the round keys of a key, or the refusal of its length, with zeros
-unfoldable pub expansion : List ℕ → Expansion
-expansion key =
-    cond (isWidth (length key)) (record { answer = Expanded; keys = roundKeys key })
-    (record { answer = Refused; keys = replicate 240 0 })
+-- document 01's number for what the key expansion answers: 1 for a key of another length
+abbrev pub keyNumber : KeyAnswer → ℕ
+keyNumber Expanded = 0
+keyNumber Refused = 1
+
+-- what the key expansion gives: 0 and the round keys of a key, or 1 and zeros
+pub record Expands (key : List ℕ) (r : Expansion) : Type 0 where
+  pub number : keyNumber (r .answer) ≡ cond (isWidth (length key)) 0 1
+  pub keys : r .keys ≡ cond (isWidth (length key)) (roundKeys key) (replicate 240 0)

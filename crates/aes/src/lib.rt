@@ -6,7 +6,7 @@ mod word;
 ghost use mathlib.Core.Path.{_≡_};
 ghost use mathlib.Core.Bool.{true};
 ghost use lib.ListN.{length};
-ghost use Rattle.aes.specs.Aes.{isWidth, expansion};
+ghost use Rattle.aes.specs.Aes.{isWidth, Expands};
 ghost use Rattle.aes.specs.Cipher.{cipher};
 ghost use Rattle.aes.specs.KeyExpansion.{roundKeys};
 ghost use Rattle.aes.specs.Engine.{Ready, CanEncrypt};
@@ -33,10 +33,11 @@ struct State {
     c3: u32,
 }
 
-// What the key expansion answers.
+// What the key expansion answers, each case with its number.
 pub enum KeyAnswer {
+    // 0.
     Expanded,
-    // The key has not 16, 24 or 32 bytes.
+    // 1: the key has not 16, 24 or 32 bytes.
     Refused,
 }
 
@@ -81,7 +82,7 @@ pub fn is_width(n: usize) -> bool
 // The round keys of a key, those past its own rounds zero; a key of another length is refused.
 pub fn expand(engine: &Engine, key: &[u8]) -> Expansion
     requires { ⌜ Ready (now engine) ⌝ }
-    ensures { λ r. ⌜ r ≡ expansion (now (key .entry)) ⌝ }
+    ensures { λ r. ⌜ Expands (now (key .entry)) r ⌝ }
 {
     let n = key.len();
     if is_width(n) {
