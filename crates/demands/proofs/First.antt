@@ -43,7 +43,7 @@ use Rattle.demands.proofs.Parts.{from-c-parts, ring-parts}
 use Rattle.demands.proofs.Pieces.{head-figures}
 use Rattle.demands.proofs.Plans.{by-plan}
 use Rattle.demands.proofs.Slots.{noSlot, is-genuine, none-genuine, chosen-noSlot, ring-case-from-c}
-use Rattle.demands.proofs.Table.{Told, first-due, skips, forged-number, by-table}
+use Rattle.demands.proofs.Table.{Told, _▸_, first-due, skips, forged-number, by-table}
 
 -- ---- the header list
 
@@ -87,31 +87,9 @@ module _ (key bytes lens input output scratch : List ℕ) where
       → FirstSeal key bytes lens input output scratch E result
   unfolding put numberIn
   by-seal empty E tells result settled =
-      by-table CallResult numberIn (sealingRows empty) _ result (sealedCall key bytes lens input output scratch) _ (λ n. refusedCall n output scratch) _ settled (
-        refl,
-        otherwise (key-length (length key)),
-        (
-          refl,
-          tells,
-          (
-            refl,
-            below 126 (length lens),
-            (
-              refl,
-              summed lens (length bytes),
-              (
-                refl,
-                below limit (length input),
-                (
-                  refl,
-                  below (length output) (length input + 16),
-                  (refl, below (length scratch) (max (length input) 16), tt),
-                ),
-              ),
-            ),
-          ),
-        ),
-      )
+      by-table CallResult numberIn (sealingRows empty) _ result (sealedCall key bytes lens input output scratch) _ (λ n. refusedCall n output scratch) _ settled
+      (otherwise (key-length (length key)) ▸ tells ▸ below 126 (length lens) ▸ summed lens (length bytes) ▸ below limit (length input) ▸ below (length output) (length input + 16)
+      ▸ below (length scratch) (max (length input) 16) ▸ tt)
       refl refl (λ n. refl)
       (λ e.
       let works = sealed-lengths key bytes lens input (omega (arith, sums-past empty (sealRows (length input) (length output) (length scratch)) 0 (inl refl) e)) ∙ work-all lens (length input) in
@@ -135,39 +113,9 @@ module _ (key bytes lens input output scratch : List ℕ) where
       → FirstOpen key bytes lens input output scratch E result
   unfolding put numberIn
   by-open empty E tells result settled =
-      by-table CallResult numberIn (openingRows empty) _ result (openedCall key bytes lens input output scratch) _ refused _ settled (
-        refl,
-        otherwise (key-length (length key)),
-        (
-          refl,
-          tells,
-          (
-            refl,
-            below 126 (length lens),
-            (
-              refl,
-              summed lens (length bytes),
-              (
-                refl,
-                below (length input) 16,
-                (
-                  refl,
-                  below 1048592 (length input),
-                  (
-                    refl,
-                    below (length output) (length input - 16),
-                    (
-                      refl,
-                      below (length scratch) (max (length input - 16) 16),
-                      (refl, otherwise (is-genuine key ss input), tt),
-                    ),
-                  ),
-                ),
-              ),
-            ),
-          ),
-        ),
-      )
+      by-table CallResult numberIn (openingRows empty) _ result (openedCall key bytes lens input output scratch) _ refused _ settled
+      (otherwise (key-length (length key)) ▸ tells ▸ below 126 (length lens) ▸ summed lens (length bytes) ▸ below (length input) 16 ▸ below 1048592 (length input)
+      ▸ below (length output) (length input - 16) ▸ below (length scratch) (max (length input - 16) 16) ▸ otherwise (is-genuine key ss input) ▸ tt)
       refl refl (forged-number numberIn (forgedCall key bytes lens input output scratch) (λ n. refusedCall n output scratch) refl (λ n. refl))
       (λ e. ap (λ (w : ℕ). called 0 (length input - 16) w (openedCall key bytes lens input output scratch .output) (cleared scratch (length input - 16))) (works 0 (inl refl) e))
       (λ n e. leaves n e (ℕ-discrete n 8))
@@ -256,43 +204,10 @@ module _ (keyLength : ℕ) (ring bytes lens input output scratch : List ℕ) whe
 
     due : FirstDue (ringTable keyLength ring bytes lens input output scratch E) (first (front ++ back))
     due =
-        first-due (front ++ back) (ringTable keyLength ring bytes lens input output scratch E) (
-          refl,
-          otherwise (key-length keyLength),
-          (
-            refl,
-            otherwise (ring-length keyLength (length ring)),
-            (
-              refl,
-              tells,
-              (
-                refl,
-                below 126 (length lens),
-                (
-                  refl,
-                  summed lens (length bytes),
-                  (
-                    refl,
-                    below (length input) 16,
-                    (
-                      refl,
-                      below 1048592 (length input),
-                      (
-                        refl,
-                        below (length output) (length input - 16),
-                        (
-                          refl,
-                          below (length scratch) (max (length input - 16) 16),
-                          (refl, none-genuine keyLength ring (strings bytes lens) input count, tt),
-                        ),
-                      ),
-                    ),
-                  ),
-                ),
-              ),
-            ),
-          ),
-        )
+        first-due (front ++ back) (ringTable keyLength ring bytes lens input output scratch E)
+        (otherwise (key-length keyLength) ▸ otherwise (ring-length keyLength (length ring)) ▸ tells ▸ below 126 (length lens) ▸ summed lens (length bytes) ▸ below (length input) 16
+        ▸ below 1048592 (length input) ▸ below (length output) (length input - 16) ▸ below (length scratch) (max (length input - 16) 16)
+        ▸ none-genuine keyLength ring (strings bytes lens) input count ▸ tt)
 
     abbrev work : ℕ
     work = wholeWork lens (length input - 16)
@@ -361,8 +276,7 @@ module _ (key bytes lens : List ℕ) where
   headerRowsWith other = headerRows (length key) lens (length bytes) ++ (row 5 other ∷ [])
 
   header-told : (other : Bool) (B : Type 0) → Tells other B → Told (headerRowsWith other) (headerTable key bytes lens B)
-  header-told other B tells =
-      (refl, otherwise (key-length (length key)), (refl, below 126 (length lens), (refl, summed lens (length bytes), (refl, tells, tt))))
+  header-told other B tells = otherwise (key-length (length key)) ▸ below 126 (length lens) ▸ summed lens (length bytes) ▸ tells ▸ tt
 
   -- the head of an admitted list, and its work
   made : (other : Bool) → first (headerRowsWith other) ≡ 0
@@ -392,11 +306,8 @@ module _ (h : Head) (bytes lens : List ℕ) where
 
   rest-told : (other : Bool) (B : Type 0) → Tells other B → Told (restRowsWith other) (restTable h bytes lens B)
   unfolding fitsHead
-  rest-told other B tells = (
-    refl,
-    judges (one-of (unless (key-width (h .width))) (not-below 126 (h .count))),
-    (refl, below 126 (h .count + length lens), (refl, summed lens (length bytes), (refl, tells, tt))),
-  )
+  rest-told other B tells =
+      judges (one-of (unless (key-width (h .width))) (not-below 126 (h .count))) ▸ below 126 (h .count + length lens) ▸ summed lens (length bytes) ▸ tells ▸ tt
 
   rest-work : (other : Bool) → first (restRowsWith other) ≡ 0 → extendedWork (strings bytes lens) ≡ headerBlocks lens
   rest-work other e =

@@ -1,6 +1,6 @@
 -- The worst header list, in figures.
 -- Assumes nothing.
-use mathlib.Core.Path.{_≡_, refl, ap, sym, subst, _∙_}
+use mathlib.Core.Path.{_≡_, ap, sym, subst, _∙_}
 use mathlib.Core.Bool.{_||_}
 use mathlib.Core.List.{List, [], _∷_}
 use mathlib.Core.Logic.{_⊎_, inl, inr}
@@ -15,7 +15,7 @@ use Rattle.demands.specs.Figures.{sum}
 use Rattle.demands.specs.First.{IsList, IsWorstList, worstTable, FirstWorst}
 use Rattle.demands.specs.Table.{told, FirstDue}
 use Rattle.demands.proofs.Figures.{Fails, unless, equal, either, not-below, judges, one-of, total-sum, blocks-all}
-use Rattle.demands.proofs.Table.{first-due}
+use Rattle.demands.proofs.Table.{_▸_, first-due}
 
 -- ---- lists
 
@@ -84,7 +84,7 @@ by-plan h k least {outcome} g =
     let number : outcome .number ≡ first (planRows h k least) = ap (λ (o : Outcome). o .number) (g .answer) in
     record {
       answer = g .answer ∙ ap (λ (n : ℕ). told n 0 0) (sym number);
-      first = subst (FirstDue (worstTable h k least)) (sym number) (first-due (planRows h k least) (worstTable h k least) (refl, judges (twelve h k least), tt));
+      first = subst (FirstDue (worstTable h k least)) (sym number) (first-due (planRows h k least) (worstTable h k least) (judges (twelve h k least) ▸ tt));
       done = λ e. worst-list (g .done (sym number ∙ e));
       refused = λ e. g .refused (λ z. omega (arith, sym e ∙ number ∙ z));
     }
