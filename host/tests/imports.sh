@@ -1,12 +1,12 @@
 #!/usr/bin/env bash
-# The statements in crates/demands/specs take from the other crates the calls' own definitions with their results' types,
+# The statements in crates/demands/specs take from the other crates the calls' own definitions and promises,
 # the declared types and the standards' functions, and nothing else: a wrong bound, row or builder would judge itself.
 # A name that is not on its list fails, and so does one that stands there and is not taken.
 set -eu -o pipefail
 
 # names FILE...: what the files take from other crates, a name a line with its module.
 names() {
-    awk '/^use Rattle.demands.specs/ { next }
+    awk '/^use Rattle\.demands\.specs\.[A-Z][A-Za-z]*\.\{[^{}]+\}$/ && !/specs\.Cases\./ { next }
         /^use Rattle·[^ {}]+\.\{[^{}]+\}$/ {
             sub(/^use Rattle·/, "")
             module = taken = $0
@@ -57,14 +57,20 @@ the standards' functions
  s2v.specs.S2v absorbStrings headerResult tagFrom
  counter.specs.Counter initialCounter counterBlock
  keystream.specs.KeyStream xorStream
- whole.specs.Siv macKey ctrKey tagOf streamed sealed opened
+ whole.specs.Siv tagOf streamed sealed opened
 declared types
+ aes.specs.declared.Expansion Expansion
+ aes.specs.declared.KeyAnswer.the-variants Expanded Refused
  answers.specs.declared.Answer Answer
  answers.specs.declared.Answer.the-variants Ok Refused
  answers.specs.declared.Refusal.the-variants KeyLength HeaderCount HeaderLengths TooLong SealedLength OutputShort
  answers.specs.declared.Refusal.the-variants ScratchShort Forged State EmptyNonce RingLength HeaderPlan
+ whole.specs.declared.Report Report
+ whole.specs.declared.RingAnswer RingAnswer
  head.specs.declared.Head Head
+ head.specs.declared.Made Made
  stream.specs.declared.Stream Stream
+ stream.specs.declared.Step Step
 the calls' definitions, and what a definition gives
  answers.specs.Answer Outcome outcomeOf
  whole.specs.Calls CallResult sealCall openCall
@@ -75,10 +81,18 @@ the calls' definitions, and what a definition gives
  stream.specs.Steps addStep turnStep writeStep closeStep feedStep finishStep
  worst_header.specs.WorstHeader GivesWorst
  kinphlor.specs.Interface sealFromC openFromC openRingFromC packed packedRing plannedFromC GivesWorstFromC
+the promises, which Promises.antt says in parts, and what they speak of
+ octets.specs.Octets Lent
+ aes.specs.Aes keyNumber Expands
+ whole.specs.Calls Performs
+ whole.specs.Ring PerformsRing
+ head.specs.Head DidMake
+ stream.specs.Steps DidStep
+ kinphlor.specs.Interface PerformsFromC PerformsRingFromC
 END
 
 specs=crates/demands/specs
 names "$specs/Cases.antt" | compare 'the twelve cases' "$scratch/cases"
-shopt -s extglob
-names "$specs"/!(Cases).antt | compare 'the statements' "$scratch/statements"
+mapfile -t files < <(find "$specs" -name '*.antt' ! -path "$specs/Cases.antt")
+names "${files[@]}" | compare 'the statements' "$scratch/statements"
 echo "imports: $(wc -l <"$scratch/statements") names that the statements take, and $(wc -l <"$scratch/cases") for the twelve cases"

@@ -36,7 +36,7 @@ use Rattle.demands.specs.Figures.{over, sum, headerBlocks, wholeWork}
 use Rattle.demands.specs.First.{called, cleared, FirstSeal, FirstOpen, ringTable, FirstRing, headerTable, restTable, FirstHead, FirstBegin, First}
 use Rattle.demands.specs.State.{preparedHead, longerHead, begunState}
 use Rattle.demands.specs.Steps.{stepped}
-use Rattle.demands.specs.Table.{told, FirstDue}
+use Rattle.demands.specs.Table.{answered, FirstDue}
 use Rattle.demands.proofs.Figures.{Tells, never, below, not-below, equal, otherwise, unless, judges, one-of, key-length, key-width, ring-length, total-sum, blocks-all, work-all}
 use Rattle.demands.proofs.Given.{by-call}
 use Rattle.demands.proofs.Parts.{from-c-parts, ring-parts}
@@ -153,7 +153,7 @@ from-c rest nonce key output scratch done gone e = go (isKeyLength (length key))
 
 -- a call with another work
 abbrev withWork : CallResult → ℕ → CallResult
-withWork c w = record { outcome = told (c .outcome .number) (c .outcome .count) w; output = c .output; scratch = c .scratch }
+withWork c w = record { outcome = answered (c .outcome .number) (c .outcome .count) w; output = c .output; scratch = c .scratch }
 
 module _ (keyLength : ℕ) (ring bytes lens input output scratch : List ℕ) where
   abbrev count : ℕ

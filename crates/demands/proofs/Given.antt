@@ -24,13 +24,13 @@ use Rattle.answers.specs.Answer.{Row, row, first, settle, forgedOr}
 use Rattle.answers.proofs.Laws.{lacks, first-not, settle-number}
 use Rattle.whole.specs.Calls.{limit}
 use Rattle.stream.specs.declared.Stream.{Stream}
-use Rattle.stream.specs.State.{ended, keptFits, fits, usedTail, added, addedWork, tagOfState, tagOfStateWork, streamedAt, keptAt, streamedWith, turned}
+use Rattle.stream.specs.State.{ended, keptFits, fits, usedTail, stateWith, added, addedWork, tagOfState, tagOfStateWork, streamedAt, keptAt, streamedWith, turned}
 use Rattle.stream.specs.Steps.{StepResult, doneStep, refusedStep, addStep, turnStep, wrote, writeStep, closeStep, deciphered, feedStep, forgedStep, finishStep}
 use Rattle.tail.specs.Tail.{leavingBlocks}
-use Rattle.demands.specs.Figures.{IsZero, over, tailBytes, chained, sixteenths, blocks}
+use Rattle.demands.specs.Figures.{IsZero, over, tailCount, chained, sixteenths, tagBlocks}
 use Rattle.demands.specs.Run.{Call, add, turn, write, close, feed, finish, call, lent}
-use Rattle.demands.specs.State.{blankState, changed}
-use Rattle.demands.specs.Steps.{place, NineAside, ByRule, Nine, xored, keptBy, withPiece, withWritten, stepped, stepTable, stepDone, stepLeft, Sized}
+use Rattle.demands.specs.State.{blankState}
+use Rattle.demands.specs.Steps.{place, NineButTailLength, ByRule, Nine, xored, keptBy, withPiece, withWritten, stepped, stepTable, stepDone, stepLeft, Sized}
 use Rattle.demands.specs.Table.{order, keeps, FirstDue, ByTable}
 use Rattle.demands.proofs.Figures.{Tells, Fails, unless, below, not-below, equal, judges, otherwise, one-of, key-width, zeros, alike-bytes}
 use Rattle.demands.proofs.Pieces.{front-zeros, passed-chained, piece-work, added-work, tag-of-state-work}
@@ -72,17 +72,17 @@ nine wanted s =
     let width = unless (key-width (s .width)) in
     let total = not-below limit (s .total) in
     let written = not-below (cond (eqb wanted 2) (s .total) 0) (s .written) in
-    let len = unless (equal (s .«tail_len») (tailBytes (s .total))) in
+    let len = unless (equal (s .«tail_len») (tailCount (s .total))) in
     let kept = kept-fails (place wanted s % 16) (s .kept) in
-    let tail = unless (zeros (drop (tailBytes (s .total)) (s .tail))) in
+    let tail = unless (zeros (drop (tailCount (s .total)) (s .tail))) in
     let all = one-of (one-of (one-of (one-of (one-of (one-of stage width) total) written) len) kept) tail in
     record { holds = λ e. stated (all .holds e); fails = λ e n. all .fails e (tested n) }
 
 -- where the hold's length follows the rule, 9 judges what it judges beside it
-nine-aside : (wanted : ℕ) (s : Stream) → ByRule s → Fails (fits wanted s) (NineAside wanted s)
+nine-aside : (wanted : ℕ) (s : Stream) → ByRule s → Fails (fits wanted s) (NineButTailLength wanted s)
 nine-aside wanted s rule = record { holds = λ e. aside (nine wanted s .holds e); fails = λ e n. nine wanted s .fails e (inl n) }
   where
-    aside : Nine wanted s → NineAside wanted s
+    aside : Nine wanted s → NineButTailLength wanted s
     aside (inl n) = n
     aside (inr other) = absurd (other rule)
 
@@ -146,7 +146,7 @@ added-figures s piece =
     let total = s .total + length piece in
     let text = usedTail s ++ piece in
     let n : leavingBlocks (s .total) (length piece) ≡ chained total - chained (s .total) = ap₂ _-_ (passed-chained total) (passed-chained (s .total)) in
-    ap₂ (λ (k : ℕ) (tail : List ℕ). changed s (s .stage) (chain (cipher (s .width) (s .«mac_keys»)) (s .chain) text k) (s .v) (s .kept) total (s .written) (tailBytes total) tail) n
+    ap₂ (λ (k : ℕ) (tail : List ℕ). stateWith s (chain (cipher (s .width) (s .«mac_keys»)) (s .chain) text k) total (tailCount total) tail) n
     (front-zeros 31 (drop (16 * leavingBlocks (s .total) (length piece)) text)
     ∙ ap (λ (k : ℕ). drop (16 * k) text ++ replicate (31 - length (drop (16 * k) text)) 0) n)
 
@@ -241,7 +241,7 @@ module _ (s : Stream) (shared : List ℕ) where
     -- a refusal but for 8 leaves state and output
     untouched : (c : Call) → lacks 8 (rows c) ≡ true → (n : ℕ) → first (rows c) ≡ n → refusedStep n s (lent shared c) ≡ stepLeft s shared c n
     untouched c l n e =
-        ap (λ (t : Bool). cond t (stepped 8 0 (blocks (s .total) - chained (s .total)) blankState (over shared 0 (replicate (s .total) 0))) (refusedStep n s (lent shared c)))
+        ap (λ (t : Bool). cond t (stepped 8 0 (tagBlocks (s .total)) blankState (over shared 0 (replicate (s .total) 0))) (refusedStep n s (lent shared c)))
         (sym (ne-eqb n 8 (λ p. first-not 8 (rows c) l (λ q. omega (arith, q)) (e ∙ p))))
 
     left : (c : Call) (n : ℕ) → first (rows c) ≡ n → leaves c n ≡ stepLeft s shared c n
@@ -261,11 +261,11 @@ module _ (s : Stream) (shared : List ℕ) where
       (told-step Nine s shared c (λ wanted. nine wanted s)) (ordered c) (gives-number c) (leaves-number c) (λ e. complete z c) (left z c)
 
   -- where the hold's length follows the rule, the number is that of the table in which 9 does not judge it
-  pub number-aside : (c : Call) → ByRule s → FirstDue (stepTable NineAside s shared c) (call s shared c .outcome .number)
+  pub number-aside : (c : Call) → ByRule s → FirstDue (stepTable NineButTailLength s shared c) (call s shared c .outcome .number)
   unfolding numberIn
   number-aside c rule =
-      subst (FirstDue (stepTable NineAside s shared c)) (sym (ap numberIn (settles c) ∙ settle-number (first (rows c)) (gives c) (leaves c) numberIn (gives-number c) (leaves-number c)))
-      (first-due (rows c) _ (told-step NineAside s shared c (λ wanted. nine-aside wanted s rule)))
+      subst (FirstDue (stepTable NineButTailLength s shared c)) (sym (ap numberIn (settles c) ∙ settle-number (first (rows c)) (gives c) (leaves c) numberIn (gives-number c) (leaves-number c)))
+      (first-due (rows c) _ (told-step NineButTailLength s shared c (λ wanted. nine-aside wanted s rule)))
 
   -- and a call keeps the rule
   gives-rule : (c : Call) → ByRule s → ByRule (gives c .state)

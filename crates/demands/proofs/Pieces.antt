@@ -4,6 +4,7 @@
 use mathlib.Core.Path.{_≡_, refl, ap, ap₂, sym, _∙_}
 use mathlib.Core.Bool.{Bool, true, false, not, cond, _||_}
 use mathlib.Core.List.{List, [], _++_}
+use mathlib.Core.Logic.{inl, inr}
 use Prim.Native.Nat.{ℕ, zero, suc, _+_, _-_, _*_, _/_, _%_, _≤_, _<_}
 use native.Mathlib.Decide.{decLt}
 use native.Mathlib.Nat.{zero-add}
@@ -13,10 +14,10 @@ use lib.ListN.{length, take, drop, replicate, length-append, length-take, length
 use lib.Seq.{drop-append-le, drop-drop, drop-at}
 use borrow.Author.Tests.{eq-eqb, le-ltb}
 use Rattle.octets.specs.Octets.{put, allZero}
-use Rattle.octets.proofs.Strings.{length-put, take-put, drop-put}
-use Rattle.aes.specs.Aes.{aes}
+use Rattle.octets.proofs.Strings.{length-xors, length-put, take-put, drop-put}
+use Rattle.aes.specs.Aes.{isWidth, aes}
 use Rattle.aes.specs.Cipher.{cipher}
-use Rattle.aes.specs.KeyExpansion.{keyExpansion, roundKeys}
+use Rattle.aes.specs.KeyExpansion.{word, temp, nextWord, schedule, keyExpansion, roundKeys}
 use Rattle.aes.proofs.Widths.{length-cipher}
 use Rattle.cmac.specs.declared.Subkeys.{Subkeys}
 use Rattle.cmac.specs.Cmac.{zeros, chain, subkeys, zeroCipher}
@@ -36,8 +37,9 @@ use Rattle.stream.specs.declared.Stream.{Stream}
 use Rattle.stream.specs.State.{start, writtenLimit, keptFits, fits, usedTail, stateWith, added, addedWork, tagOfState, tagOfStateWork, streamedAt, keptAt}
 use Rattle.tail.specs.Tail.{tailOf, passedBlocks}
 use Rattle.tail.proofs.Laws.{Cut, cut, passed-more}
-use Rattle.demands.specs.Figures.{tailBytes, chained, sixteenths, blocks}
+use Rattle.demands.specs.Figures.{IsKeyWidth, tailCount, chained, sixteenths, blocks}
 use Rattle.demands.specs.State.{keyBytes, preparedHead, stateOf}
+use Rattle.demands.proofs.Figures.{key-width}
 
 with-same : (s : Stream) {c c′ : List ℕ} {n n′ : ℕ} {t t′ : List ℕ} → c ≡ c′ → n ≡ n′ → t ≡ t′ → stateWith s c n (tailLength n) t ≡ stateWith s c′ n′ (tailLength n′) t′
 with-same s {c} {c′} {n} {n′} {t} {t′} p q r =
@@ -110,9 +112,28 @@ pub front-zeros : (m : ℕ) (s : List ℕ) → put (replicate m 0) 0 s ≡ s ++ 
 unfolding put
 front-zeros m s = ap (λ (l : List ℕ). s ++ l) (drop-zeros (0 + length s) m ∙ ap (λ (k : ℕ). replicate (m - k) 0) (zero-add (length s)))
 
-key-bytes : (half : List ℕ) → roundKeys half ≡ keyBytes half
-unfolding roundKeys
-key-bytes half = front-zeros 240 (keyExpansion half)
+-- the key expansion has 4 bytes for each word
+next-word : (nk i : ℕ) (w : List ℕ) → length (nextWord nk i w) ≡ 4
+unfolding nextWord
+next-word nk i w = length-xors (word w (i - nk)) (temp nk i (word w (i - 1)))
+
+length-schedule : (nk : ℕ) (key : List ℕ) (n : ℕ) → length (schedule nk key n) ≡ length key + 4 * n
+unfolding schedule
+length-schedule nk key zero = omega arith
+length-schedule nk key (suc n) =
+    length-append (schedule nk key n) (nextWord nk (nk + n) (schedule nk key n)) ∙ omega (arith, length-schedule nk key n, next-word nk (nk + n) (schedule nk key n))
+
+pub key-bytes : (half : List ℕ) → isWidth (length half) ≡ true → roundKeys half ≡ keyBytes half
+unfolding roundKeys keyExpansion
+key-bytes half w =
+    front-zeros 240 (keyExpansion half)
+    ∙ ap (λ (n : ℕ). keyExpansion half ++ replicate (240 - n) 0)
+    (length-schedule (length half / 4) half (4 * (length half / 4 + 7) - length half / 4) ∙ words (key-width (length half) .holds w))
+  where
+    words : IsKeyWidth (length half) → length half + 4 * (4 * (length half / 4 + 7) - length half / 4) ≡ 16 * (length half / 4 + 7)
+    words (inl e) = omega (arith, e)
+    words (inr (inl e)) = omega (arith, e)
+    words (inr (inr e)) = omega (arith, e)
 
 -- ---- the state
 
@@ -242,6 +263,12 @@ module _ (key : List ℕ) (ss : List (List ℕ)) where
     mac-cipher : cipher (length key / 2) (roundKeys (macKey key)) ≡ aes (macKey key)
     mac-cipher = aes-cipher (macKey key) (simp length-take (omega arith)) refl
 
+    mac-bytes : roundKeys (macKey key) ≡ keyBytes (macKey key)
+    mac-bytes = key-bytes (macKey key) (ap isWidth (simp length-take (omega arith)) ∙ h .half)
+
+    ctr-bytes : roundKeys (ctrKey key) ≡ keyBytes (ctrKey key)
+    ctr-bytes = let k : KeyHalves (length key) = h in key-bytes (ctrKey key) (ap isWidth (simp length-drop (omega arith)) ∙ h .half)
+
     -- a head in figures
     pub head-figures : headOf key ss ≡ preparedHead key ss
     unfolding headOf
@@ -249,8 +276,8 @@ module _ (key : List ℕ) (ss : List (List ℕ)) where
         λ i.
         record {
           width = length key / 2;
-          «mac_keys» = key-bytes (macKey key) i;
-          «ctr_keys» = key-bytes (ctrKey key) i;
+          «mac_keys» = mac-bytes i;
+          «ctr_keys» = ctr-bytes i;
           l = zeroCipher (mac-cipher i);
           d = headerResult (mac-cipher i) (subkeys (zeroCipher (mac-cipher i))) ss;
           count = length ss;
@@ -261,15 +288,15 @@ module _ (key : List ℕ) (ss : List (List ℕ)) where
     unfolding tailLength before
     state-figures stage v kept written P =
         let n = passed-chained (length P) in
-        let tail : tailOf (drop (16 * passedBlocks (length P)) P) ≡ drop (16 * chained (length P)) P ++ replicate (31 - tailBytes (length P)) 0 =
+        let tail : tailOf (drop (16 * passedBlocks (length P)) P) ≡ drop (16 * chained (length P)) P ++ replicate (31 - tailCount (length P)) 0 =
         front-zeros 31 (drop (16 * passedBlocks (length P)) P)
         ∙ ap₂ (λ (m k : ℕ). drop (16 * m) P ++ replicate (31 - k) 0) n (long stage v kept written P) in
         λ i.
         record {
           stage = stage;
           width = length key / 2;
-          «mac_keys» = key-bytes (macKey key) i;
-          «ctr_keys» = key-bytes (ctrKey key) i;
+          «mac_keys» = mac-bytes i;
+          «ctr_keys» = ctr-bytes i;
           l = zeroCipher (mac-cipher i);
           d = headerResult (mac-cipher i) (subkeys (zeroCipher (mac-cipher i))) ss;
           chain = chain (mac-cipher i) zeros P (n i);

@@ -1,6 +1,6 @@
 -- The worst header list, in figures.
 -- Assumes nothing.
-use mathlib.Core.Path.{_≡_, ap, sym, subst, _∙_}
+use mathlib.Core.Path.{_≡_, refl, ap, sym, subst, _∙_}
 use mathlib.Core.Bool.{_||_}
 use mathlib.Core.List.{List, [], _∷_}
 use mathlib.Core.Logic.{_⊎_, inl, inr}
@@ -13,7 +13,7 @@ use Rattle.answers.specs.Answer.{Outcome, first}
 use Rattle.worst_header.specs.WorstHeader.{mostBytes, isPlan, planRows, AllAtLeast, Composes, IsWorst, GivesWorst}
 use Rattle.demands.specs.Figures.{sum}
 use Rattle.demands.specs.First.{IsList, IsWorstList, worstTable, FirstWorst}
-use Rattle.demands.specs.Table.{told, FirstDue}
+use Rattle.demands.specs.Table.{answered, FirstDue}
 use Rattle.demands.proofs.Figures.{Fails, unless, equal, either, not-below, judges, one-of, total-sum, blocks-all}
 use Rattle.demands.proofs.Table.{_▸_, first-due}
 
@@ -83,7 +83,8 @@ pub by-plan : (h k least : ℕ) {outcome : Outcome} {places : List ℕ} {blocks 
 by-plan h k least {outcome} g =
     let number : outcome .number ≡ first (planRows h k least) = ap (λ (o : Outcome). o .number) (g .answer) in
     record {
-      answer = g .answer ∙ ap (λ (n : ℕ). told n 0 0) (sym number);
+      answer = g .answer ∙ ap (λ (n : ℕ). answered n 0 0) (sym number);
+      ordered = refl;
       first = subst (FirstDue (worstTable h k least)) (sym number) (first-due (planRows h k least) (worstTable h k least) (judges (twelve h k least) ▸ tt));
       done = λ e. worst-list (g .done (sym number ∙ e));
       refused = λ e. g .refused (λ z. omega (arith, sym e ∙ number ∙ z));

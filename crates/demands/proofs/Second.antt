@@ -14,7 +14,7 @@ use Rattle.whole.proofs.Laws.{seal-complete}
 use Rattle.whole.proofs.Lengths.{sealed-lengths}
 use Rattle.demands.specs.Figures.{wholeWork}
 use Rattle.demands.specs.Second.{Admits, Gives, Second}
-use Rattle.demands.specs.Table.{told}
+use Rattle.demands.specs.Table.{answered}
 use Rattle.demands.proofs.Figures.{work-all, keyed, sums}
 use Rattle.demands.proofs.Siv.{length-sealed}
 use Rattle.demands.proofs.Whole.{accepts-the-sealed}
@@ -39,7 +39,7 @@ module _ (key bytes lens p output scratch : List ℕ) (a : Admits key bytes lens
   unfolding put
   seal-gives =
       let complete = seal-complete key bytes lens p output scratch seal-number in (
-        ap (λ (r : CallResult). r .outcome) complete ∙ ap₂ (told 0) (sym (length-sealed key (strings bytes lens) p)) (sealed-lengths key bytes lens p (omega (arith, sums a)) ∙ work-all lens (length p)),
+        ap (λ (r : CallResult). r .outcome) complete ∙ ap₂ (answered 0) (sym (length-sealed key (strings bytes lens) p)) (sealed-lengths key bytes lens p (omega (arith, sums a)) ∙ work-all lens (length p)),
         ap (λ (r : CallResult). r .output) complete,
       )
 

@@ -9,14 +9,14 @@ use Rattle.stream.specs.declared.Stream.{Stream}
 use Rattle.stream.specs.Steps.{StepResult}
 use Rattle.demands.specs.First.{FirstBegin}
 use Rattle.demands.specs.Run.{Begin, sealer, opener, Start, undivided, divided, Call, add, turn, write, close, feed, finish, begunFrom, begun, call, run}
-use Rattle.demands.specs.Steps.{NineAside, ByRule, stepTable, stepDone}
+use Rattle.demands.specs.Steps.{NineButTailLength, ByRule, stepTable, stepDone}
 use Rattle.demands.specs.Table.{Row, FirstDue}
 use Rattle.demands.specs.Tail.{withTailLen, SameStep, TailShown}
 use Rattle.demands.proofs.First.{answers-or-first-refusal}
 use Rattle.demands.proofs.Given.{number-aside, keeps-rule}
 
 -- the table in which 9 does not judge the field does not read it
-unchanged : (s : Stream) (n : ℕ) (shared : List ℕ) (c : Call) → ByRule s → FirstDue (stepTable NineAside (withTailLen n s) shared c) (call s shared c .outcome .number)
+unchanged : (s : Stream) (n : ℕ) (shared : List ℕ) (c : Call) → ByRule s → FirstDue (stepTable NineButTailLength (withTailLen n s) shared c) (call s shared c .outcome .number)
 unchanged s n shared (add piece) rule = number-aside s shared (add piece) rule
 unchanged s n shared (turn output) rule = number-aside s shared (turn output) rule
 unchanged s n shared (write piece output) rule = number-aside s shared (write piece output) rule
@@ -61,6 +61,7 @@ tail-shown =
     record {
       unchanged = unchanged;
       unread = unread;
+      lists = λ s n shared calls c rule. unchanged _ n _ c (run-by-rule s shared calls rule);
       begins = begun-by-rule;
       beginsFrom = from-by-rule;
       stays = run-by-rule;

@@ -17,7 +17,7 @@ use Rattle.whole.proofs.Laws.{openJudged, open-admits, by-tag, open-passed, ope
 use Rattle.whole.proofs.Lengths.{genuine-lengths}
 use Rattle.demands.specs.Figures.{over, wholeWork}
 use Rattle.demands.specs.Second.{Admits, Gives}
-use Rattle.demands.specs.Table.{told}
+use Rattle.demands.specs.Table.{answered}
 use Rattle.demands.specs.Whole.{Accepts, SealsTo, ThirdWhole}
 use Rattle.demands.proofs.Figures.{work-all, keyed, sums}
 use Rattle.demands.proofs.Siv.{length-sealed, opened-sealed, genuine-sealed, sealed-opened}
@@ -41,14 +41,14 @@ module _ (key bytes lens y output scratch : List ℕ) where
   unfolding put
   open-gives j g =
       let result = open-told key bytes lens y output scratch true g j in
-      (ap (λ (r : CallResult). r .outcome) result ∙ ap₂ (told 0) (sym (length-opened key y)) (work j), ap (λ (r : CallResult). r .output) result)
+      (ap (λ (r : CallResult). r .outcome) result ∙ ap₂ (answered 0) (sym (length-opened key y)) (work j), ap (λ (r : CallResult). r .output) result)
 
   pub open-wipes : openJudged key bytes lens y output scratch ≡ 0 → genuine key (strings bytes lens) y ≡ false
-      → (openCall key bytes lens y output scratch .outcome ≡ told 8 0 (wholeWork lens (length y - 16))) × (openCall key bytes lens y output scratch .output ≡ over output 0 (replicate (length y - 16) 0))
+      → (openCall key bytes lens y output scratch .outcome ≡ answered 8 0 (wholeWork lens (length y - 16))) × (openCall key bytes lens y output scratch .output ≡ over output 0 (replicate (length y - 16) 0))
   unfolding put
   open-wipes j g =
       let result = open-told key bytes lens y output scratch false g j in
-      (ap (λ (r : CallResult). r .outcome) result ∙ ap (told 8 0) (work j), ap (λ (r : CallResult). r .output) result)
+      (ap (λ (r : CallResult). r .outcome) result ∙ ap (answered 8 0) (work j), ap (λ (r : CallResult). r .output) result)
 
   module _ (a : Admits key bytes lens) (outputFits : length y - 16 ≤ length output) (scratchFits : max (length y - 16) 16 ≤ length scratch) where
     pub judged : 16 ≤ length y → length y ≤ 1048592 → openJudged key bytes lens y output scratch ≡ 0
@@ -100,7 +100,7 @@ module _ (key bytes lens y output scratch : List ℕ) where
     whole-refuses none e = none (opened key y) (zero-seals (sym (open-numbered key bytes lens y output scratch) ∙ e))
 
     whole-wipes : ((P : List ℕ) → SealsTo key bytes lens y P → ⊥) → 16 ≤ length y → length y ≤ 1048592
-        → (openCall key bytes lens y output scratch .outcome ≡ told 8 0 (wholeWork lens (length y - 16))) × (openCall key bytes lens y output scratch .output ≡ over output 0 (replicate (length y - 16) 0))
+        → (openCall key bytes lens y output scratch .outcome ≡ answered 8 0 (wholeWork lens (length y - 16))) × (openCall key bytes lens y output scratch .output ≡ over output 0 (replicate (length y - 16) 0))
     whole-wipes none tagged limited = open-wipes (judged tagged limited) (go (genuine key (strings bytes lens) y) refl)
       where
         go : (b : Bool) → genuine key (strings bytes lens) y ≡ b → genuine key (strings bytes lens) y ≡ false

@@ -16,7 +16,7 @@ use Rattle.demands.specs.Figures.{IsKeyLength, headerBlocks, workBehind}
 use Rattle.demands.specs.First.{called, IsWorstList}
 use Rattle.demands.specs.WorstHeader.{AsReported, WorstHeaders}
 use Rattle.demands.specs.Second.{Admits}
-use Rattle.demands.specs.Table.{told}
+use Rattle.demands.specs.Table.{answered}
 use Rattle.demands.specs.Work.{Reported}
 use Rattle.demands.proofs.First.{answers-or-first-refusal}
 use Rattle.demands.proofs.Plans.{worst-list}
@@ -62,7 +62,7 @@ module _ (h k least : ℕ) (places : List ℕ) (blocks : ℕ) (p : Planned h k l
         admitted = admitted;
         seals = λ key bytes text output scratch keyed long limited room scratchFits.
             let given = seals-and-reopens .seals key bytes (take k places) text output scratch (admitted key bytes keyed long) limited room scratchFits in
-            (given .0 ∙ ap (told 0 _) (omega (arith, d .counted)), given .1);
+            (given .0 ∙ ap (answered 0 _) (omega (arith, d .counted)), given .1);
         opens = λ key bytes input output scratch.
             subst (λ (b : ℕ). Reported (openCall key bytes (take k places) input output scratch) (workBehind b (length input - 16))) (sym (d .counted)) (opened-work key bytes (take k places) input output scratch);
         sealsNoMore = λ other o key bytes input output scratch. sealed-most key bytes other input output scratch blocks (d .most other o);

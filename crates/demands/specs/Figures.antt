@@ -42,8 +42,8 @@ sum [] = 0
 sum (n ∷ lens) = n + sum lens
 
 -- how many bytes of a plaintext wait for its end, "the hold" of document 01: total itself below 16, else 16 + total mod 16
-abbrev pub tailBytes : ℕ → ℕ
-tailBytes total = cond (ltb total 16) total (16 + total % 16)
+abbrev pub tailCount : ℕ → ℕ
+tailCount total = cond (ltb total 16) total (16 + total % 16)
 
 -- so many blocks of n bytes stand before this tail: they are in the CMAC chain
 abbrev pub chained : ℕ → ℕ
@@ -59,12 +59,20 @@ sixteenths n = (n + 15) / 16
 abbrev pub blocks : ℕ → ℕ
 blocks n = max (sixteenths n) 1
 
--- of header strings
+-- the blocks that a tag takes beside those in the chain
+abbrev pub tagBlocks : ℕ → ℕ
+tagBlocks n = blocks n - chained n
+
+-- how many bytes of the key stream's block are left that the first n bytes begin
+abbrev pub unused : ℕ → ℕ
+unused n = 16 * sixteenths n - n
+
+-- the blocks of header strings
 unfoldable pub headerBlocks : List ℕ → ℕ
 headerBlocks [] = 0
 headerBlocks (n ∷ lens) = blocks n + headerBlocks lens
 
--- of whole sealing or opening with so many header blocks and a plaintext of n bytes
+-- the work of whole sealing or opening with so many header blocks and a plaintext of n bytes
 abbrev pub workBehind : ℕ → ℕ → ℕ
 workBehind header n = 2 + header + blocks n + sixteenths n
 

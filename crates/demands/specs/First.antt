@@ -1,8 +1,9 @@
 -- The first demand: every call gives the complete result, or the one refusal that is first due,
 -- with state and buffers as document 01's table says, and the work that slip 5 of document 02 says.
+-- The six piecewise calls' table, with 9 in full, and what they give and leave is in Steps.antt.
 -- Assumes nothing.
 use mathlib.Core.Path.{_≡_}
-use mathlib.Core.Bool.{cond}
+use mathlib.Core.Bool.{true, cond}
 use mathlib.Core.List.{List, [], _∷_}
 use mathlib.Core.Logic.{_⊎_}
 use Prim.Native.Nat.{ℕ, _+_, _-_, _*_, _/_, _%_, _≤_, _<_, max}
@@ -26,31 +27,31 @@ use Rattle.demands.specs.Figures.{IsKeyLength, IsKeyWidth, IsRingLength,
 use Rattle.demands.specs.Run.{Call, call}
 use Rattle.demands.specs.State.{blankHead, preparedHead, longerHead, blankState, begunState}
 use Rattle.demands.specs.Steps.{Nine, stepped, stepTable, stepDone, stepLeft, Sized}
-use Rattle.demands.specs.Table.{told, Row, row, FirstDue, ByTable}
+use Rattle.demands.specs.Table.{answered, Row, row, order, keeps, FirstDue, ByTable}
 
 -- ---- answers
 
 -- every case of an answer has document 01's number, or 02's; a refusal has length 0
 pub record Numbers (w : ℕ) : Type 0 where
-  pub ok : (n : ℕ) → outcomeOf (Ok n) w ≡ told 0 n w
-  pub keyLength : outcomeOf (Refused KeyLength) w ≡ told 1 0 w
-  pub headerCount : outcomeOf (Refused HeaderCount) w ≡ told 2 0 w
-  pub headerLengths : outcomeOf (Refused HeaderLengths) w ≡ told 3 0 w
-  pub tooLong : outcomeOf (Refused TooLong) w ≡ told 4 0 w
-  pub sealedLength : outcomeOf (Refused SealedLength) w ≡ told 5 0 w
-  pub outputShort : outcomeOf (Refused OutputShort) w ≡ told 6 0 w
-  pub scratchShort : outcomeOf (Refused ScratchShort) w ≡ told 7 0 w
-  pub forged : outcomeOf (Refused Forged) w ≡ told 8 0 w
-  pub state : outcomeOf (Refused State) w ≡ told 9 0 w
-  pub emptyNonce : outcomeOf (Refused EmptyNonce) w ≡ told 10 0 w
-  pub ringLength : outcomeOf (Refused RingLength) w ≡ told 11 0 w
-  pub headerPlan : outcomeOf (Refused HeaderPlan) w ≡ told 12 0 w
+  pub ok : (n : ℕ) → outcomeOf (Ok n) w ≡ answered 0 n w
+  pub keyLength : outcomeOf (Refused KeyLength) w ≡ answered 1 0 w
+  pub headerCount : outcomeOf (Refused HeaderCount) w ≡ answered 2 0 w
+  pub headerLengths : outcomeOf (Refused HeaderLengths) w ≡ answered 3 0 w
+  pub tooLong : outcomeOf (Refused TooLong) w ≡ answered 4 0 w
+  pub sealedLength : outcomeOf (Refused SealedLength) w ≡ answered 5 0 w
+  pub outputShort : outcomeOf (Refused OutputShort) w ≡ answered 6 0 w
+  pub scratchShort : outcomeOf (Refused ScratchShort) w ≡ answered 7 0 w
+  pub forged : outcomeOf (Refused Forged) w ≡ answered 8 0 w
+  pub state : outcomeOf (Refused State) w ≡ answered 9 0 w
+  pub emptyNonce : outcomeOf (Refused EmptyNonce) w ≡ answered 10 0 w
+  pub ringLength : outcomeOf (Refused RingLength) w ≡ answered 11 0 w
+  pub headerPlan : outcomeOf (Refused HeaderPlan) w ≡ answered 12 0 w
 
 -- ---- whole calls
 
 -- number, length and work, and the last contents of output and scratch
 abbrev pub called : ℕ → ℕ → ℕ → List ℕ → List ℕ → CallResult
-called number count work output scratch = record { outcome = told number count work; output = output; scratch = scratch }
+called number count work output scratch = record { outcome = answered number count work; output = output; scratch = scratch }
 
 -- a scratch with what a plaintext of n bytes needs of it zero: n bytes, and at least 16
 abbrev pub cleared : List ℕ → ℕ → List ℕ
@@ -61,7 +62,7 @@ abbrev pub Genuine : List ℕ → List (List ℕ) → List ℕ → Type 0
 Genuine key ss y = tagOf key ss (opened key y) ≡ take 16 y
 
 module _ (key bytes lens input output scratch : List ℕ) where
-  -- sealing, from Rattle and from C: there the nonce may be empty
+  -- sealing, from Rattle and from C, where 10 is judged too
   abbrev sealingTable : Type 0 → List Row
   sealingTable emptyNonce =
       row 1 (IsKeyLength (length key) → ⊥)
@@ -142,7 +143,7 @@ module _ (keyLength : ℕ) (ring bytes lens input output scratch : List ℕ) whe
 
 -- ---- the number that C gets
 
--- its parts as the header reads them: the answer from bit 32 on,
+-- its parts as kinphlor.h reads them: the answer from bit 32 on,
 -- the slot in the four bits below, the length in the 28 below these
 pub record Parts (given number slot count : ℕ) : Type 0 where
   pub high : given / 4294967296 ≡ number
@@ -171,7 +172,8 @@ worstTable h k least =
 
 -- the call by its table: which of several worst lists is given stays open; with 12 all places and the blocks are zero
 pub record FirstWorst (h k least : ℕ) (outcome : Outcome) (places : List ℕ) (blocks : ℕ) : Type 0 where
-  pub answer : outcome ≡ told (outcome .number) 0 0
+  pub answer : outcome ≡ answered (outcome .number) 0 0
+  pub ordered : keeps order (worstTable h k least) ≡ true
   pub first : FirstDue (worstTable h k least) (outcome .number)
   pub done : outcome .number ≡ 0 → IsWorstList h k least places blocks
   pub refused : outcome .number ≡ 12 → (places ≡ replicate 126 0) × (blocks ≡ 0)
@@ -199,8 +201,8 @@ restTable h bytes lens otherTag =
 -- a call that makes a head: a refusal has a head that is all zero
 abbrev pub FirstHead : List Row → MakeResult → ℕ → Head → Type 0
 FirstHead table result work head =
-    ByTable MakeResult table (result .outcome .number) result (record { outcome = told 0 0 work; head = head })
-    (λ n. record { outcome = told n 0 0; head = blankHead })
+    ByTable MakeResult table (result .outcome .number) result (record { outcome = answered 0 0 work; head = head })
+    (λ n. record { outcome = answered n 0 0; head = blankHead })
 
 -- a begin: a refusal has the ended state
 abbrev pub FirstBegin : List Row → StepResult → ℕ → Stream → Type 0
@@ -238,7 +240,7 @@ pub record First : Type 0 where
   pub findingWorst : (h k least : ℕ) (outcome : Outcome) (places : List ℕ) (blocks : ℕ) → GivesWorst h k least outcome places blocks
       → FirstWorst h k least outcome places blocks
   pub findingWorstFromC : (h k least : ℕ) (places : List ℕ) (given : ℕ) → GivesWorstFromC h k least places given
-      → FirstWorst h k least (told (given / 4294967296) 0 0) places (given % 4294967296)
+      → FirstWorst h k least (answered (given / 4294967296) 0 0) places (given % 4294967296)
   pub makingHead : (key bytes lens : List ℕ)
       → FirstHead (headerTable key bytes lens ⊥) (makeHead key bytes lens) (2 + headerBlocks lens) (preparedHead key (strings bytes lens))
   pub extendingHead : (h : Head) (bytes lens : List ℕ)

@@ -9,7 +9,7 @@ use Rattle.stream.specs.Steps.{StepResult}
 use Rattle.demands.specs.Figures.{headerBlocks}
 use Rattle.demands.specs.Run.{Begin, undivided, divided, begunFrom, firstHead, restBytes, begun}
 use Rattle.demands.specs.Second.{Admits}
-use Rattle.demands.specs.Table.{told}
+use Rattle.demands.specs.Table.{answered}
 
 -- two results are the same but for their work
 pub record SameButWork (a b : StepResult) : Type 0 where
@@ -21,7 +21,7 @@ pub record SameButWork (a b : StepResult) : Type 0 where
 -- the first n strings of a list, and the others
 pub record Split (key bytes lens : List ℕ) (n : ℕ) : Type 0 where
   -- the head of the first is made, and reports its work
-  pub made : firstHead key bytes lens n .outcome ≡ told 0 0 (2 + headerBlocks (take n lens))
+  pub made : firstHead key bytes lens n .outcome ≡ answered 0 0 (2 + headerBlocks (take n lens))
   -- a begin from it with the others gives answer and state of the undivided list's begin:
   -- a sealer's, and an opener's with any tag, one of a wrong length too
   pub begins : (begin : Begin) → SameButWork (begun key bytes lens (divided n) begin) (begun key bytes lens undivided begin)
@@ -30,7 +30,7 @@ pub record Split (key bytes lens : List ℕ) (n : ℕ) : Type 0 where
       → firstHead key bytes lens n .outcome .work + begun key bytes lens (divided n) begin .outcome .work ≡ begun key bytes lens undivided begin .outcome .work
   -- and extended by the others it is the head of all
   pub extends : extendHead (firstHead key bytes lens n .head) (restBytes key bytes lens n) (drop n lens)
-      ≡ record { outcome = told 0 0 (headerBlocks (drop n lens)); head = makeHead key bytes lens .head }
+      ≡ record { outcome = answered 0 0 (headerBlocks (drop n lens)); head = makeHead key bytes lens .head }
 
 -- What a user of heads may rely on.
 pub record Heads : Type 0 where

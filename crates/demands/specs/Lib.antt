@@ -14,3 +14,4 @@ pub mod Third
 pub mod Tail
 pub mod Work
 pub mod WorstHeader
+pub mod Promises

@@ -1,5 +1,5 @@
 -- The reference model, "the plain book" of document 01: what every list of piecewise calls gives,
--- told from the arguments of begin and of the calls alone; with the work of slip 5 of document 02, from lengths alone.
+-- answered from the arguments of begin and of the calls alone; with the work of slip 5 of document 02, from lengths alone.
 -- Assumes nothing.
 use mathlib.Core.Bool.{Bool, false, cond, _||_}
 use mathlib.Core.List.{List, [], _∷_, _++_}
@@ -9,9 +9,9 @@ use lib.ListN.{length, drop, replicate}
 use Rattle.header.specs.Header.{strings}
 use Rattle.whole.specs.Calls.{openCall}
 use Rattle.whole.specs.Siv.{tagOf, streamed, opened}
-use Rattle.demands.specs.Figures.{over, chained, sixteenths, blocks}
+use Rattle.demands.specs.Figures.{over, chained, sixteenths, tagBlocks}
 use Rattle.demands.specs.Run.{Begin, sealer, opener, Call, add, turn, write, close, feed, finish, Entry}
-use Rattle.demands.specs.Table.{told}
+use Rattle.demands.specs.Table.{answered}
 
 -- what the model keeps: a stage, A, the bytes added or fed, and W, those written
 pub record ModelState : Type 0 where
@@ -103,12 +103,12 @@ module _ (key bytes lens : List ℕ) where
     -- those that the tag is made with, and those of the key stream that are begun
     abbrev pub workAfter : ModelState → Call → ℕ
     workAfter b (add piece) = chained (length (b .A ++ piece)) - chained (length (b .A))
-    workAfter b (turn output) = blocks (length (b .A)) - chained (length (b .A))
+    workAfter b (turn output) = tagBlocks (length (b .A))
     workAfter b (write piece output) = sixteenths (length (b .W ++ piece)) - sixteenths (length (b .W))
     workAfter b close = 0
     workAfter b (feed piece) =
         (sixteenths (length (b .A ++ piece)) - sixteenths (length (b .A))) + (chained (length (b .A ++ piece)) - chained (length (b .A)))
-    workAfter b finish = blocks (length (b .A)) - chained (length (b .A))
+    workAfter b finish = tagBlocks (length (b .A))
 
     -- the output lent to a call, before it; add and close are lent none
     abbrev pub outputBefore : ModelState → Call → List ℕ
@@ -129,7 +129,7 @@ module _ (key bytes lens : List ℕ) where
     outputAfter b (feed piece) = shown (modelAfter b (feed piece))
     outputAfter b finish = shown (modelAfter b finish)
 
-    -- and in any: 9 in a stage that it does not want
+    -- the number that a call gives in any stage: 9 in one that it does not want
     abbrev pub modelNumber : ModelState → Call → ℕ
     modelNumber b c = cond (eqb (b .stage) (wants c)) (judged b c) 9
 
@@ -140,9 +140,9 @@ module _ (key bytes lens : List ℕ) where
         cond (eqb n 0 || eqb n 8)
         (record {
           model = modelAfter b c;
-          entry = record { outcome = told n (cond (eqb n 0) (countAfter b c) 0) (workAfter b c); output = outputAfter b c };
+          entry = record { outcome = answered n (cond (eqb n 0) (countAfter b c) 0) (workAfter b c); output = outputAfter b c };
         })
-        (record { model = b; entry = record { outcome = told n 0 0; output = outputBefore b c } })
+        (record { model = b; entry = record { outcome = answered n 0 0; output = outputBefore b c } })
 
     abbrev pub modelRun : ModelState → List Call → ModelRun
     modelRun b [] = record { entries = []; model = b }

@@ -11,7 +11,7 @@ use Rattle.whole.specs.Ring.{RingResult, openRing}
 use Rattle.kinphlor.specs.Interface.{openFromC, openRingFromC}
 use Rattle.demands.specs.Figures.{IsKeyLength, keyIn, over, sum, wholeWork}
 use Rattle.demands.specs.Second.{Gives}
-use Rattle.demands.specs.Table.{told}
+use Rattle.demands.specs.Table.{answered}
 use Rattle.demands.specs.Whole.{Accepts, SealsTo}
 
 -- a ring of one to four whole keys
@@ -68,7 +68,7 @@ module _ (keyLength slots : ℕ) (ring bytes lens y : List ℕ) where
     -- and if y has 16 to 1,048,592 bytes, it refuses with 8,
     -- and every output byte that a plaintext would have taken is zero
     pub wipes : ((i : ℕ) (P : List ℕ) → SealsUnder i P → ⊥) → 16 ≤ length y → length y ≤ 1048592
-        → (result .call .outcome ≡ told 8 0 (slots * wholeWork lens (length y - 16)))
+        → (result .call .outcome ≡ answered 8 0 (slots * wholeWork lens (length y - 16)))
         × (result .call .output ≡ over output 0 (replicate (length y - 16) 0))
 
 -- What a user of the ring may rely on.

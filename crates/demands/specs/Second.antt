@@ -8,7 +8,7 @@ use Rattle.header.specs.Header.{strings}
 use Rattle.whole.specs.Calls.{CallResult, sealCall, openCall}
 use Rattle.whole.specs.Siv.{sealed}
 use Rattle.demands.specs.Figures.{IsKeyLength, over, sum, wholeWork}
-use Rattle.demands.specs.Table.{told}
+use Rattle.demands.specs.Table.{answered}
 
 -- a key and a header list that document 01 admits
 pub record Admits (key bytes lens : List ℕ) : Type 0 where
@@ -19,7 +19,7 @@ pub record Admits (key bytes lens : List ℕ) : Type 0 where
 -- a call succeeded, with the work that slip 5 of document 02 says,
 -- and put s, and nothing else, to the front of the output
 abbrev pub Gives : CallResult → ℕ → List ℕ → List ℕ → Type 0
-Gives result work output s = (result .outcome ≡ told 0 (length s) work) × (result .output ≡ over output 0 s)
+Gives result work output s = (result .outcome ≡ answered 0 (length s) work) × (result .output ≡ over output 0 s)
 
 -- The second demand: sealing gives the bytes of RFC 5297 over FIPS 197's AES,
 -- and opening returns the plaintext that was sealed.

@@ -5,25 +5,31 @@ use mathlib.Core.Bool.{cond}
 use mathlib.Core.List.{List, _++_}
 use Prim.Native.Nat.{ℕ, _+_, _-_, _*_, _/_, _%_}
 use lib.Dec.{eqb}
-use lib.ListN.{length, drop, replicate}
+use lib.ListN.{length, take, drop, replicate}
 use Rattle.aes.specs.Aes.{aes}
 use Rattle.aes.specs.Cipher.{cipher}
 use Rattle.aes.specs.KeyExpansion.{keyExpansion}
 use Rattle.cmac.specs.Cmac.{subkeys, chain}
 use Rattle.s2v.specs.S2v.{absorbStrings, headerResult}
 use Rattle.counter.specs.Counter.{initialCounter, counterBlock}
-use Rattle.whole.specs.Siv.{macKey, ctrKey}
 use Rattle.head.specs.declared.Head.{Head}
 use Rattle.stream.specs.declared.Stream.{Stream}
-use Rattle.demands.specs.Figures.{tailBytes, chained}
+use Rattle.demands.specs.Figures.{tailCount, chained}
 
--- the round keys of one half of a key, and zeros past its own rounds, 240 bytes in all
+-- the halves of a key: the first serves S2V, the second the counter
+abbrev pub firstHalf : List ℕ → List ℕ
+firstHalf key = take (length key / 2) key
+
+abbrev pub secondHalf : List ℕ → List ℕ
+secondHalf key = drop (length key / 2) key
+
+-- the round keys of one half: 11, 13 or 15 blocks for 16, 24 or 32 bytes, and zeros behind them, 240 bytes in all
 abbrev pub keyBytes : List ℕ → List ℕ
-keyBytes half = keyExpansion half ++ replicate (240 - length (keyExpansion half)) 0
+keyBytes half = keyExpansion half ++ replicate (240 - 16 * (length half / 4 + 7)) 0
 
--- the key stream's block that its first n bytes begin and do not use up, the cipher of Q + i; zero where there is none
-abbrev pub begunBy : (List ℕ → List ℕ) → List ℕ → ℕ → List ℕ
-begunBy E v n = cond (eqb (n % 16) 0) (replicate 16 0) (E (counterBlock (initialCounter v) (n / 16)))
+-- the key stream's block that its first n bytes begin and do not use up; zero where there is none
+abbrev pub blockBegun : (List ℕ → List ℕ) → List ℕ → ℕ → List ℕ
+blockBegun E v n = cond (eqb (n % 16) 0) (replicate 16 0) (E (counterBlock (initialCounter v) (n / 16)))
 
 -- ---- heads
 
@@ -41,12 +47,12 @@ blankHead =
 -- of a key and header strings: L, and D over them
 abbrev pub preparedHead : List ℕ → List (List ℕ) → Head
 preparedHead key ss =
-    let E = aes (macKey key) in
+    let E = aes (firstHalf key) in
     let l = E (replicate 16 0) in
     record {
       width = length key / 2;
-      «mac_keys» = keyBytes (macKey key);
-      «ctr_keys» = keyBytes (ctrKey key);
+      «mac_keys» = keyBytes (firstHalf key);
+      «ctr_keys» = keyBytes (secondHalf key);
       l = l;
       d = headerResult E (subkeys l) ss;
       count = length ss;
@@ -89,29 +95,23 @@ begunState h stage v =
 abbrev pub blankState : Stream
 blankState = begunState blankHead 0 (replicate 16 0)
 
--- a state with other values in what calls may change, in the fields' order; width, round keys, L and D stay
-abbrev pub changed : Stream → ℕ → List ℕ → List ℕ → List ℕ → ℕ → ℕ → ℕ → List ℕ → Stream
-changed s stage chain v kept total written len tail =
-    record {
-      stage = stage;
-      width = s .width;
-      «mac_keys» = s .«mac_keys»;
-      «ctr_keys» = s .«ctr_keys»;
-      l = s .l;
-      d = s .d;
-      chain = chain;
-      v = v;
-      kept = kept;
-      total = total;
-      written = written;
-      «tail_len» = len;
-      tail = tail;
-    }
-
--- what a key, header strings and pieces give that make up the plaintext P:
--- the chain over its blocks before the tail, and the tail, its unused bytes zero
+-- pieces that make up the plaintext P give this: the chain over the blocks before its tail, and the tail, then zeros
 abbrev pub stateOf : List ℕ → List (List ℕ) → ℕ → List ℕ → List ℕ → ℕ → List ℕ → Stream
 stateOf key ss stage v kept written P =
+    let h = preparedHead key ss in
     let n = chained (length P) in
-    changed (begunState (preparedHead key ss) stage v) stage (chain (aes (macKey key)) (replicate 16 0) P n) v kept (length P) written
-    (tailBytes (length P)) (drop (16 * n) P ++ replicate (31 - tailBytes (length P)) 0)
+    record {
+      stage = stage;
+      width = h .width;
+      «mac_keys» = h .«mac_keys»;
+      «ctr_keys» = h .«ctr_keys»;
+      l = h .l;
+      d = h .d;
+      chain = chain (aes (firstHalf key)) (replicate 16 0) P n;
+      v = v;
+      kept = kept;
+      total = length P;
+      written = written;
+      «tail_len» = tailCount (length P);
+      tail = drop (16 * n) P ++ replicate (31 - tailCount (length P)) 0;
+    }

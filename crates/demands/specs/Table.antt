@@ -9,8 +9,8 @@ use lib.Dec.{eqb}
 use Rattle.answers.specs.Answer.{Outcome}
 
 -- a number, a length and a work
-abbrev pub told : ℕ → ℕ → ℕ → Outcome
-told number count work = record { number = number; count = count; work = work }
+abbrev pub answered : ℕ → ℕ → ℕ → Outcome
+answered number count work = record { number = number; count = count; work = work }
 
 -- a refusal's number, and the condition under which it is due
 pub record Row : Type 1 where
@@ -20,8 +20,7 @@ pub record Row : Type 1 where
 abbrev pub row : ℕ → Type 0 → Row
 row n due = record { number = n; due = due }
 
--- document 01's order of refusals, with document 02's 11 straight after 1;
--- 12 is alone in its table, so its place says nothing
+-- document 01's order of refusals, with document 02's 11 straight after 1; 12 is alone in its table
 abbrev pub order : List ℕ
 order = 9 ∷ 1 ∷ 11 ∷ 10 ∷ 2 ∷ 3 ∷ 5 ∷ 4 ∷ 6 ∷ 7 ∷ 8 ∷ 12 ∷ []
 

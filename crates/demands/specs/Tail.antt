@@ -8,13 +8,27 @@ use Rattle.head.specs.declared.Head.{Head}
 use Rattle.stream.specs.declared.Stream.{Stream}
 use Rattle.stream.specs.Steps.{StepResult}
 use Rattle.demands.specs.Run.{Begin, Start, Call, begunFrom, begun, call, run}
-use Rattle.demands.specs.State.{changed}
-use Rattle.demands.specs.Steps.{NineAside, ByRule, stepTable, stepDone}
+use Rattle.demands.specs.Steps.{NineButTailLength, ByRule, stepTable, stepDone}
 use Rattle.demands.specs.Table.{FirstDue}
 
 -- a state with n in the field, and nothing else changed
 abbrev pub withTailLen : ℕ → Stream → Stream
-withTailLen n s = changed s (s .stage) (s .chain) (s .v) (s .kept) (s .total) (s .written) n (s .tail)
+withTailLen n s =
+    record {
+      stage = s .stage;
+      width = s .width;
+      «mac_keys» = s .«mac_keys»;
+      «ctr_keys» = s .«ctr_keys»;
+      l = s .l;
+      d = s .d;
+      chain = s .chain;
+      v = s .v;
+      kept = s .kept;
+      total = s .total;
+      written = s .written;
+      «tail_len» = n;
+      tail = s .tail;
+    }
 
 -- number, length, work and output are the same, and the state but for the field
 pub record SameStep (a b : StepResult) : Type 0 where
@@ -27,11 +41,14 @@ pub record TailShown : Type 0 where
   -- a call on any state with the rule's figure gives the number of the table in which 9 does not judge the field,
   -- with any n in its place
   pub unchanged : (s : Stream) (n : ℕ) (shared : List ℕ) (c : Call) → ByRule s
-      → FirstDue (stepTable NineAside (withTailLen n s) shared c) (call s shared c .outcome .number)
+      → FirstDue (stepTable NineButTailLength (withTailLen n s) shared c) (call s shared c .outcome .number)
   -- and what it gives then does not depend on the field
   pub unread : (s : Stream) (n : ℕ) (shared : List ℕ) (c : Call) → SameStep (stepDone s shared c) (stepDone (withTailLen n s) shared c)
-  -- so it is for every call of every list: each state that a begin gives has the rule's figure,
-  -- whatever key, head, list and tag are, and whether it was refused or not
+  -- so it is for every call of every list
+  pub lists : (s : Stream) (n : ℕ) (shared : List ℕ) (calls : List Call) (c : Call) → ByRule s
+      → let r = run s shared calls in
+      FirstDue (stepTable NineButTailLength (withTailLen n (r .state)) (r .shared) c) (call (r .state) (r .shared) c .outcome .number)
+  -- each state that a begin gives has the rule's figure, whatever key, head, list and tag are, and whether it was refused or not
   pub begins : (key bytes lens : List ℕ) (start : Start) (begin : Begin) → ByRule (begun key bytes lens start begin .state)
   pub beginsFrom : (h : Head) (bytes lens : List ℕ) (begin : Begin) → ByRule (begunFrom h bytes lens begin .state)
   -- and no list of calls loses it

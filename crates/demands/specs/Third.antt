@@ -10,15 +10,15 @@ use lib.ListN.{length, take, drop, replicate}
 use Rattle.aes.specs.Aes.{aes}
 use Rattle.header.specs.Header.{strings}
 use Rattle.whole.specs.Calls.{openCall}
-use Rattle.whole.specs.Siv.{ctrKey, streamed, sealed}
+use Rattle.whole.specs.Siv.{streamed, sealed}
 use Rattle.stream.specs.declared.Stream.{Stream}
 use Rattle.stream.specs.Steps.{StepResult, finishStep}
 use Rattle.demands.specs.Figures.{over, headerBlocks}
 use Rattle.demands.specs.Model.{ModelState, fresh, ModelRun, sealTag, shown, modelRun}
 use Rattle.demands.specs.Run.{Begin, sealer, opener, Start, undivided, divided, Call, add, turn, write, close, feed, finish, begun, Entry, Run, run}
 use Rattle.demands.specs.Second.{Admits}
-use Rattle.demands.specs.State.{begunBy, blankState, stateOf}
-use Rattle.demands.specs.Table.{told}
+use Rattle.demands.specs.State.{secondHalf, blockBegun, blankState, stateOf}
+use Rattle.demands.specs.Table.{answered}
 use Rattle.demands.specs.Whole.{ThirdWhole}
 
 -- the same bytes in one piece: one add of A in stage 1;
@@ -65,10 +65,10 @@ module _ (key bytes lens : List ℕ) where
       let ss = strings bytes lens in
       let v = sealTag key bytes lens (b .A) in
       cond (eqb (b .stage) 1) (stateOf key ss 1 (replicate 16 0) (replicate 16 0) 0 (b .A))
-      (cond (eqb (b .stage) 2) (stateOf key ss 2 v (begunBy (aes (ctrKey key)) v (length (b .W))) (length (b .W)) (b .A)) blankState)
+      (cond (eqb (b .stage) 2) (stateOf key ss 2 v (blockBegun (aes (secondHalf key)) v (length (b .W))) (length (b .W)) (b .A)) blankState)
   stateBy (opener T) b =
       let ss = strings bytes lens in
-      cond (eqb (b .stage) 3) (stateOf key ss 3 T (begunBy (aes (ctrKey key)) T (length (b .A))) 0 (streamed key T (b .A))) blankState
+      cond (eqb (b .stage) 3) (stateOf key ss 3 T (blockBegun (aes (secondHalf key)) T (length (b .A))) 0 (streamed key T (b .A))) blankState
 
   -- any list of calls, refused ones included, after either begin,
   -- from the whole list or from a head, with any shared output
@@ -84,7 +84,7 @@ module _ (key bytes lens : List ℕ) where
 
       pub record AsModel : Type 0 where
         -- begin succeeds, with the work of all strings, or of those behind the head's
-        pub begins : begun key bytes lens start begin .outcome ≡ told 0 0 (beginWork lens start)
+        pub begins : begun key bytes lens start begin .outcome ≡ answered 0 0 (beginWork lens start)
         -- all numbers, lengths, works and output bytes are the model's
         pub entries : ran .entries ≡ expected .entries
         pub output : ran .shared ≡ shown key bytes lens begin shared (expected .model)

@@ -9,7 +9,7 @@ use Rattle.whole.specs.Calls.{CallResult, openCall}
 use Rattle.whole.specs.Siv.{sealed}
 use Rattle.demands.specs.Figures.{over, wholeWork}
 use Rattle.demands.specs.Second.{Gives}
-use Rattle.demands.specs.Table.{told}
+use Rattle.demands.specs.Table.{answered}
 
 -- a call accepted s: number 0 and its length, and s, and nothing else, is at the front of the output
 abbrev pub Accepts : CallResult → List ℕ → List ℕ → Type 0
@@ -31,5 +31,5 @@ pub record ThirdWhole (key bytes lens y output scratch : List ℕ) : Type 0 wher
   -- and if y has 16 to 1,048,592 bytes, it refuses with 8,
   -- and every output byte that a plaintext would have taken is zero
   pub wipes : ((P : List ℕ) → SealsTo key bytes lens y P → ⊥) → 16 ≤ length y → length y ≤ 1048592
-      → (openCall key bytes lens y output scratch .outcome ≡ told 8 0 (wholeWork lens (length y - 16)))
+      → (openCall key bytes lens y output scratch .outcome ≡ answered 8 0 (wholeWork lens (length y - 16)))
       × (openCall key bytes lens y output scratch .output ≡ over output 0 (replicate (length y - 16) 0))
