@@ -41,7 +41,8 @@ unfoldable pub sum : List ℕ → ℕ
 sum [] = 0
 sum (n ∷ lens) = n + sum lens
 
--- how many bytes of a plaintext wait for its end, "the hold" of document 01: total itself below 16, else 16 + total mod 16
+-- how many bytes of a plaintext wait for its end, "the hold" of document 01:
+-- total itself below 16, else 16 + total mod 16
 abbrev pub tailCount : ℕ → ℕ
 tailCount total = cond (ltb total 16) total (16 + total % 16)
 

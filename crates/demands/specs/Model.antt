@@ -1,5 +1,5 @@
 -- The reference model, "the plain book" of document 01: what every list of piecewise calls gives,
--- answered from the arguments of begin and of the calls alone; with the work of slip 5 of document 02, from lengths alone.
+-- told from the arguments of begin and of the calls alone; with the work of slip 5 of document 02, from lengths alone.
 -- Assumes nothing.
 use mathlib.Core.Bool.{Bool, false, cond, _||_}
 use mathlib.Core.List.{List, [], _∷_, _++_}

@@ -63,7 +63,8 @@ xored s at piece =
 abbrev pub keptBy : Stream → ℕ → ℕ → List ℕ
 keptBy s at n = cond (ltb n (unused at)) (s .kept) (blockBegun (cipher (s .width) (s .«ctr_keys»)) (s .v) (at + n))
 
--- a piece of plaintext more, and a kept block: whole blocks go from the tail into the chain, and its unused bytes are zero
+-- a piece of plaintext more, and a kept block:
+-- whole blocks go from the tail into the chain, and its unused bytes are zero
 abbrev pub withPiece : Stream → List ℕ → List ℕ → Stream
 withPiece s kept piece =
     let total = s .total + length piece in

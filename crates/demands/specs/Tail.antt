@@ -48,7 +48,8 @@ pub record TailShown : Type 0 where
   pub lists : (s : Stream) (n : ℕ) (shared : List ℕ) (calls : List Call) (c : Call) → ByRule s
       → let r = run s shared calls in
       FirstDue (stepTable NineButTailLength (withTailLen n (r .state)) (r .shared) c) (call (r .state) (r .shared) c .outcome .number)
-  -- each state that a begin gives has the rule's figure, whatever key, head, list and tag are, and whether it was refused or not
+  -- each state that a begin gives has the rule's figure,
+  -- whatever key, head, list and tag are, and whether it was refused or not
   pub begins : (key bytes lens : List ℕ) (start : Start) (begin : Begin) → ByRule (begun key bytes lens start begin .state)
   pub beginsFrom : (h : Head) (bytes lens : List ℕ) (begin : Begin) → ByRule (begunFrom h bytes lens begin .state)
   -- and no list of calls loses it

@@ -58,7 +58,7 @@ beginWork lens undivided = 2 + headerBlocks lens
 beginWork lens (divided n) = headerBlocks (drop n lens)
 
 module _ (key bytes lens : List ℕ) where
-  -- the state that the model's stage and strings stand for: V is zero in stage 1, the tag of A in stage 2, T in stage 3,
+  -- the state that the model's stage and strings stand for: V is zero in stage 1, A's tag in stage 2, T in stage 3,
   -- whose plaintext is what was fed xor the key stream of T; the block that is begun is kept; all is zero in stage 0
   abbrev pub stateBy : Begin → ModelState → Stream
   stateBy sealer b =
