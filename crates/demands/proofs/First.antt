@@ -367,7 +367,7 @@ outcome-tells : (a b : Answer) (w w′ : ℕ) → outcomeOf a w ≡ outcomeOf b 
 outcome-tells a b w w′ e = (answer-tells a b w w′ e, sym (outcome-work a w) ∙ ap (λ (o : Outcome). o .work) e ∙ outcome-work b w′)
 
 pub answers-or-first-refusal : First
-unfolding sealCall sealNumber openCall openNumber beginSealer beginOpener beginSealerFrom beginOpenerFrom
+unfolding sealCall sealNumber openCall openNumber beginSealer beginOpener beginSealerFrom beginOpenerFrom strings
 answers-or-first-refusal =
     record {
       numbers = λ w.
@@ -387,6 +387,7 @@ answers-or-first-refusal =
             headerPlan = refl;
           };
       outcomeTells = outcome-tells;
+      headerStrings = record { none = λ bytes. refl; next = λ n bytes lens. refl };
       sealing = sealing;
       opening = opening;
       openingRing = λ keyLength ring bytes lens input output scratch. by-ring keyLength ring bytes lens input output scratch false ⊥ never (open-ring-case keyLength ring bytes lens input output scratch);

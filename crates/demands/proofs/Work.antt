@@ -2,14 +2,15 @@
 -- the answers of a list add up, and the kept block is the key stream's own.
 -- Assumes nothing.
 use mathlib.Core.Path.{_≡_, refl, ap, ap₂, sym, _∙_}
-use mathlib.Core.Bool.{Bool, true, false, cond, _&&_}
+use mathlib.Core.Bool.{Bool, true, false, cond, _&&_, or-true}
 use mathlib.Core.List.{List, [], _∷_, _++_}
-use Prim.Native.Nat.{ℕ, _+_, _-_, _*_, _≤_}
+use mathlib.Core.Logic.{_⊎_, inl, inr}
+use Prim.Native.Nat.{ℕ, _+_, _-_, _*_, _≤_, _<_}
 use native.Mathlib.Nat.{zero-add}
 use native.Mathlib.Omega.{arith}
 use lib.Dec.{eqb, ltb}
 use lib.ListN.{length, take, drop, length-append, take-append-drop}
-use borrow.Author.Tests.{le-ltb, ltb-false}
+use borrow.Author.Tests.{le-ltb, ltb-false, eq-eqb, ne-eqb, lt-ltb}
 use Rattle.header.specs.Blocks.{blocksOfAll}
 use Rattle.header.proofs.Laws.{blocks-append}
 use Rattle.answers.specs.Answer.{Outcome, Row, row, first}
@@ -42,6 +43,24 @@ use Rattle.demands.proofs.Third.{runs, sealer-known, opener-known, acce
 planned : (lens : List ℕ) (n : ℕ) → length lens ≤ 126 → n ≤ limit → wholeWork lens n ≡ plannedWork lens n
 unfolding plannedWork
 planned lens n countFits within = sym (work-all lens n) ∙ simp (le-ltb 126 (length lens) countFits, le-ltb limit n within)
+
+plans-none : (lens : List ℕ) (n : ℕ) → (126 < length lens) ⊎ (1048576 < n) → plannedWork lens n ≡ 0
+unfolding plannedWork
+plans-none lens n (inl many) = simp (lt-ltb 126 (length lens) many)
+plans-none lens n (inr long) = simp (lt-ltb limit n long, or-true)
+
+plans-from-c : (ad nonce n : ℕ) → (nonce ≡ 0 → ⊥) → n ≤ 1048576 → plannedFromC ad nonce n ≡ wholeWork (ad ∷ nonce ∷ []) n
+unfolding plannedFromC
+plans-from-c ad nonce n some within = simp (ne-eqb nonce 0 some) (sym (planned (ad ∷ nonce ∷ []) n (omega arith) within))
+
+plans-none-from-c : (ad nonce n : ℕ) → (nonce ≡ 0) ⊎ (1048576 < n) → plannedFromC ad nonce n ≡ 0
+unfolding plannedFromC
+plans-none-from-c ad nonce n (inl empty) = simp (eq-eqb nonce 0 empty)
+plans-none-from-c ad nonce n (inr long) = go (eqb nonce 0)
+  where
+    go : (t : Bool) → cond t 0 (plannedWork (ad ∷ nonce ∷ []) n) ≡ 0
+    go true = refl
+    go false = plans-none (ad ∷ nonce ∷ []) n (inr long)
 
 module _ (key bytes lens input output scratch : List ℕ) where
   seals : Reported (sealCall key bytes lens input output scratch) (plannedWork lens (length input))
@@ -282,6 +301,10 @@ reports-and-adds-up =
           (answers-or-first-refusal .openingRing keyLength ring bytes lens input output scratch) (λ z. refl);
       opensFromC = opens-from-c;
       opensRingFromC = ring-from-c;
+      plans = λ lens n countFits within. sym (planned lens n countFits within);
+      plansNone = plans-none;
+      plansFromC = plans-from-c;
+      plansNoneFromC = plans-none-from-c;
       sealers = λ key bytes lens a start shared calls.
           adds-up key bytes lens shared a sealer calls start (accepts-the-sealed-and-follows-the-model key bytes lens a .sealers start shared calls) (sealer-known key bytes lens a shared start);
       openers = λ key bytes lens a start T shared calls t.

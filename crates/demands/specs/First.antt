@@ -47,6 +47,13 @@ pub record Numbers (w : ℕ) : Type 0 where
   pub ringLength : outcomeOf (Refused RingLength) w ≡ answered 11 0 w
   pub headerPlan : outcomeOf (Refused HeaderPlan) w ≡ answered 12 0 w
 
+-- ---- the header list
+
+-- the strings are one behind the other in the header bytes
+pub record HeaderStrings : Type 0 where
+  pub none : (bytes : List ℕ) → strings bytes [] ≡ []
+  pub next : (n : ℕ) (bytes lens : List ℕ) → strings bytes (n ∷ lens) ≡ take n bytes ∷ strings (drop n bytes) lens
+
 -- ---- whole calls
 
 -- number, length and work, and the last contents of output and scratch
@@ -214,6 +221,7 @@ pub record First : Type 0 where
   pub numbers : (w : ℕ) → Numbers w
   -- number, length and work tell an answer and its work
   pub outcomeTells : (a b : Answer) (w w′ : ℕ) → outcomeOf a w ≡ outcomeOf b w′ → (a ≡ b) × (w ≡ w′)
+  pub headerStrings : HeaderStrings
   pub sealing : (key bytes lens input output scratch : List ℕ)
       → FirstSeal key bytes lens input output scratch ⊥ (sealCall key bytes lens input output scratch)
   pub opening : (key bytes lens input output scratch : List ℕ)

@@ -3,7 +3,8 @@
 -- Assumes nothing.
 use mathlib.Core.Path.{_≡_}
 use mathlib.Core.List.{List, [], _∷_}
-use Prim.Native.Nat.{ℕ, _+_, _-_, _*_, _/_}
+use mathlib.Core.Logic.{_⊎_}
+use Prim.Native.Nat.{ℕ, _+_, _-_, _*_, _/_, _≤_, _<_}
 use lib.ListN.{length}
 use Rattle.whole.specs.Calls.{CallResult, sealCall, openCall}
 use Rattle.whole.specs.Ring.{RingResult, openRing}
@@ -61,6 +62,11 @@ pub record BlockWork : Type 0 where
       → Reported (openFromC key header ad nonce input output scratch) (plannedFromC ad nonce (length input - 16))
   pub opensRingFromC : (keyLength : ℕ) (ring header input output scratch : List ℕ) (ad nonce : ℕ)
       → ReportedRing (length ring / keyLength) (openRingFromC keyLength ring header ad nonce input output scratch) (plannedFromC ad nonce (length input - 16))
+  -- what is planned is the work of a call that is not refused for its lengths, else 0
+  pub plans : (lens : List ℕ) (n : ℕ) → length lens ≤ 126 → n ≤ 1048576 → plannedWork lens n ≡ wholeWork lens n
+  pub plansNone : (lens : List ℕ) (n : ℕ) → (126 < length lens) ⊎ (1048576 < n) → plannedWork lens n ≡ 0
+  pub plansFromC : (ad nonce n : ℕ) → (nonce ≡ 0 → ⊥) → n ≤ 1048576 → plannedFromC ad nonce n ≡ wholeWork (ad ∷ nonce ∷ []) n
+  pub plansNoneFromC : (ad nonce n : ℕ) → (nonce ≡ 0) ⊎ (1048576 < n) → plannedFromC ad nonce n ≡ 0
   -- any key and header list that document 01 admits,
   -- from all of it or from a head of any of its first strings; sealers end by close
   pub sealers : (key bytes lens : List ℕ) → Admits key bytes lens → (start : Start) (shared : List ℕ) (calls : List Call) → AddsUp key bytes lens sealer shared calls start
