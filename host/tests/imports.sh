@@ -47,7 +47,7 @@ the standards' functions, and document 01's hold
 END
 
 list >"$scratch/statements" <<'END'
-the standards' functions
+the standards' functions, xors, and document 01's strings
  octets.specs.Octets xors
  aes.specs.Aes aes
  aes.specs.Cipher cipher

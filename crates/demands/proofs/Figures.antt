@@ -1,4 +1,4 @@
--- The figures here are those of the definitions below: what a test tells of a condition, and sums.
+-- The statements' figures are those of the definitions: what a test tells of a condition, and sums.
 -- Assumes nothing.
 use mathlib.Core.Path.{_≡_, refl, ap, ap₂, sym, _∙_}
 use mathlib.Core.Bool.{Bool, true, false, not, true≢false, false≢true, _&&_, _||_}
@@ -72,7 +72,7 @@ either {t} {u} {P} {Q} a b = go t u a b
         neither e (inl p) = a .fails refl p
         neither e (inr q) = b .fails e q
 
--- by a condition that says the same
+-- so of a condition that says the same
 alike : {t : Bool} {P Q : Type 0} → (P → Q) → (Q → P) → Tells t P → Tells t Q
 alike f g told = record { holds = λ e. f (told .holds e); fails = λ e q. told .fails e (g q) }
 
@@ -100,7 +100,7 @@ not-below a b = record { holds = λ e. below a b .holds (not-false (ltb a b) e);
 pub judges : {t : Bool} {P : Type 0} → Fails t P → Tells (not t) P
 judges {t} f = record { holds = λ e. f .holds (not-true t e); fails = λ e. f .fails (not-false t e) }
 
--- one of several tests
+-- two tests together fail where one of two conditions holds
 pub one-of : {t u : Bool} {P Q : Type 0} → Fails t P → Fails u Q → Fails (t && u) (P ⊎ Q)
 one-of {t} {u} {P} {Q} a b = go t u a b
   where

@@ -51,7 +51,7 @@ use Rattle.demands.proofs.Table.{Told, _▸_, first-due, skips, forged-
 summed : (lens : List ℕ) (n : ℕ) → Tells (not (eqb (total lens) n)) (sum lens ≡ n → ⊥)
 summed lens n = subst (λ (m : ℕ). Tells (not (eqb m n)) (sum lens ≡ n → ⊥)) (sym (total-sum lens)) (otherwise (equal (sum lens) n))
 
--- success and 8 have other numbers than the rows before the lengths
+-- a number that is neither 0 nor 8 is not that of success or of 8
 past : {m : ℕ} → (m ≡ 0) ⊎ (m ≡ 8) → (n : ℕ) → eqb n 0 ≡ false → eqb n 8 ≡ false → n ≡ m → ⊥
 past (inl z) n a b p = eqb-false n 0 a (p ∙ z)
 past (inr z) n a b p = eqb-false n 8 b (p ∙ z)
@@ -212,7 +212,7 @@ module _ (keyLength : ℕ) (ring bytes lens input output scratch : List ℕ) whe
     abbrev work : ℕ
     work = wholeWork lens (length input - 16)
 
-    -- what 8 and another refusal leave, with the work of so many blocks for 8
+    -- what 8, with the work of all keys, and any other refusal leave
     abbrev refusedRing : ℕ → RingResult
     refusedRing n =
         record { slot = 0; call = cond (eqb n 8) (called 8 0 (count * work) (over output 0 (replicate (length input - 16) 0)) (cleared scratch (length input - 16))) (called n 0 0 output scratch) }

@@ -78,7 +78,7 @@ nine wanted s =
     let all = one-of (one-of (one-of (one-of (one-of (one-of stage width) total) written) len) kept) tail in
     record { holds = λ e. stated (all .holds e); fails = λ e n. all .fails e (tested n) }
 
--- where the hold's length follows the rule, 9 judges what it judges beside it
+-- where the tail's length follows the rule, 9 is due exactly by what it judges beside it
 nine-aside : (wanted : ℕ) (s : Stream) → ByRule s → Fails (fits wanted s) (NineButTailLength wanted s)
 nine-aside wanted s rule = record { holds = λ e. aside (nine wanted s .holds e); fails = λ e n. nine wanted s .fails e (inl n) }
   where
@@ -260,7 +260,7 @@ module _ (s : Stream) (shared : List ℕ) where
       by-table StepResult numberIn (rows c) (stepTable Nine s shared c) (call s shared c) (gives c) (stepDone s shared c) (leaves c) (stepLeft s shared c) (settles c)
       (told-step Nine s shared c (λ wanted. nine wanted s)) (ordered c) (gives-number c) (leaves-number c) (λ e. complete z c) (left z c)
 
-  -- where the hold's length follows the rule, the number is that of the table in which 9 does not judge it
+  -- where the tail's length follows the rule, the number is that of the table in which 9 does not judge it
   pub number-aside : (c : Call) → ByRule s → FirstDue (stepTable NineButTailLength s shared c) (call s shared c .outcome .number)
   unfolding numberIn
   number-aside c rule =

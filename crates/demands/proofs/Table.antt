@@ -38,12 +38,12 @@ first-due (t ∷ ts) (r ∷ rs) e = go (t .due) (e .1) (first-due ts rs (e .2))
     go true told f = inl (told .holds refl, e .0)
     go false told f = inr (told .fails refl, f)
 
--- of a call whose number is not m, a row with another number is not due
+-- where the number is m, a row with another number is not due, and the rest gives m
 pub skips : (b : Bool) (n rest m : ℕ) → (n ≡ m → ⊥) → cond b n rest ≡ m → (b ≡ false) × (rest ≡ m)
 skips true n rest m d e = absurd (d e)
 skips false n rest m d e = (refl, e)
 
--- 8 may leave something of its own
+-- what a refusal leaves has its number, also where 8 leaves something of its own
 pub forged-number : {A : Type 0} (numberIn : A → ℕ) (forgery : A) (gone : ℕ → A) → numberIn forgery ≡ 8 → ((n : ℕ) → numberIn (gone n) ≡ n) → (n : ℕ)
     → numberIn (forgedOr forgery gone n) ≡ n
 forged-number numberIn forgery gone z m n = go (eqb n 8) (equal n 8)

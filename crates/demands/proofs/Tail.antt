@@ -24,7 +24,7 @@ unchanged s n shared close rule = number-aside s shared close rule
 unchanged s n shared (feed piece) rule = number-aside s shared (feed piece) rule
 unchanged s n shared finish rule = number-aside s shared finish rule
 
--- nor does what a call gives
+-- nor does what success gives depend on it
 unread : (s : Stream) (n : ℕ) (shared : List ℕ) (c : Call) → SameStep (stepDone s shared c) (stepDone (withTailLen n s) shared c)
 unread s n shared (add piece) = record { outcome = refl; state = refl; output = refl }
 unread s n shared (turn output) = record { outcome = refl; state = refl; output = refl }

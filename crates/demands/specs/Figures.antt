@@ -64,7 +64,7 @@ blocks n = max (sixteenths n) 1
 abbrev pub tagBlocks : ℕ → ℕ
 tagBlocks n = blocks n - chained n
 
--- how many bytes of the key stream's block are left that the first n bytes begin
+-- how many bytes are left of the key stream's block that the first n bytes begin
 abbrev pub unused : ℕ → ℕ
 unused n = 16 * sixteenths n - n
 

@@ -1,6 +1,6 @@
 -- The first demand: every call gives the complete result, or the one refusal that is first due,
 -- with state and buffers as document 01's table says, and the work that slip 5 of document 02 says.
--- The six piecewise calls' table, with 9 in full, and what they give and leave is in Steps.antt.
+-- The six piecewise calls' table, with 9 in full, and what they give and leave are in Steps.antt.
 -- Assumes nothing.
 use mathlib.Core.Path.{_≡_}
 use mathlib.Core.Bool.{true, cond}
@@ -132,7 +132,7 @@ module _ (keyLength : ℕ) (ring bytes lens input output scratch : List ℕ) whe
       ∷ []
 
   -- the buffers are as after an opening under one key, the slot's; a refusal gives slot 0;
-  -- the work is one key's for each that was tried: up to that slot, or all
+  -- the work is one key's for each that was tried: up to that slot, or all. Which slot it is, is in Ring.antt
   abbrev pub FirstRing : Type 0 → RingResult → Type 0
   FirstRing emptyNonce result =
       let n = length input - 16 in

@@ -1,5 +1,5 @@
--- What the calls' promises say, in parts: of the arguments as they came, the answer, state and slot that are given,
--- and the lent buffers as they are left. Which definition a call promises stands in its contract.
+-- What the calls' promises say, in parts: with the arguments as they came, answer, slot, head and state
+-- are the definition's, and so are the lent buffers as they are left. Which definition it is stands in the contract.
 -- Assumes nothing.
 use mathlib.Core.Path.{_≡_}
 use mathlib.Core.List.{List}

@@ -44,7 +44,7 @@ blankHead =
       count = 0;
     }
 
--- of a key and header strings: L, and D over them
+-- the head of a key and header strings: width, round keys of both halves, L, D over the strings, their count
 abbrev pub preparedHead : List ℕ → List (List ℕ) → Head
 preparedHead key ss =
     let E = aes (firstHalf key) in
@@ -95,7 +95,7 @@ begunState h stage v =
 abbrev pub blankState : Stream
 blankState = begunState blankHead 0 (replicate 16 0)
 
--- pieces that make up the plaintext P give this: the chain over the blocks before its tail, and the tail, then zeros
+-- the state after pieces that make up P: the chain over the blocks before its tail, and the tail, then zeros
 abbrev pub stateOf : List ℕ → List (List ℕ) → ℕ → List ℕ → List ℕ → ℕ → List ℕ → Stream
 stateOf key ss stage v kept written P =
     let h = preparedHead key ss in

@@ -42,13 +42,13 @@ NineButTailLength wanted s =
 abbrev pub ByRule : Stream → Type 0
 ByRule s = s .«tail_len» ≡ tailCount (s .total)
 
--- all that 9 judges
+-- all that 9 judges of a state; close has a condition more in its row
 abbrev pub Nine : ℕ → Stream → Type 0
 Nine wanted s = NineButTailLength wanted s ⊎ (ByRule s → ⊥)
 
 -- ---- what a state gives
 
--- V of all that was added
+-- V of all that was added or fed
 abbrev tagBy : Stream → List ℕ
 tagBy s = tagFrom (cipher (s .width) (s .«mac_keys»)) (subkeys (s .l)) (s .d) (s .chain) (take (tailCount (s .total)) (s .tail))
 
@@ -160,7 +160,8 @@ stepTable nine s shared finish =
     ∷ row 8 (tagBy s ≡ s .v → ⊥)
     ∷ []
 
--- success: the length, the blocks that join the chain, that the tag is made with and that are begun of the key stream
+-- success: length, work, state and output; the work is the blocks that join the chain,
+-- that the tag is made with, and that are begun of the key stream
 abbrev pub stepDone : Stream → List ℕ → Call → StepResult
 stepDone s shared (add piece) = stepped 0 0 (chained (s .total + length piece) - chained (s .total)) (withPiece s (s .kept) piece) []
 stepDone s shared (turn output) = stepped 0 16 (tagBlocks (s .total)) (withTag s) (over output 0 (tagBy s))

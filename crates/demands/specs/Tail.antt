@@ -42,7 +42,7 @@ pub record TailShown : Type 0 where
   -- with any n in its place
   pub unchanged : (s : Stream) (n : ℕ) (shared : List ℕ) (c : Call) → ByRule s
       → FirstDue (stepTable NineButTailLength (withTailLen n s) shared c) (call s shared c .outcome .number)
-  -- and what it gives then does not depend on the field
+  -- and what success gives does not depend on the field
   pub unread : (s : Stream) (n : ℕ) (shared : List ℕ) (c : Call) → SameStep (stepDone s shared c) (stepDone (withTailLen n s) shared c)
   -- so it is for every call of every list
   pub lists : (s : Stream) (n : ℕ) (shared : List ℕ) (calls : List Call) (c : Call) → ByRule s

@@ -62,7 +62,8 @@ pub record BlockWork : Type 0 where
       → Reported (openFromC key header ad nonce input output scratch) (plannedFromC ad nonce (length input - 16))
   pub opensRingFromC : (keyLength : ℕ) (ring header input output scratch : List ℕ) (ad nonce : ℕ)
       → ReportedRing (length ring / keyLength) (openRingFromC keyLength ring header ad nonce input output scratch) (plannedFromC ad nonce (length input - 16))
-  -- what is planned is the work of a call that is not refused for its lengths, else 0
+  -- what is planned: a whole call's work, but 0 for over 126 strings or a plaintext past the limit,
+  -- and from C for an empty nonce
   pub plans : (lens : List ℕ) (n : ℕ) → length lens ≤ 126 → n ≤ 1048576 → plannedWork lens n ≡ wholeWork lens n
   pub plansNone : (lens : List ℕ) (n : ℕ) → (126 < length lens) ⊎ (1048576 < n) → plannedWork lens n ≡ 0
   pub plansFromC : (ad nonce n : ℕ) → (nonce ≡ 0 → ⊥) → n ≤ 1048576 → plannedFromC ad nonce n ≡ wholeWork (ad ∷ nonce ∷ []) n
