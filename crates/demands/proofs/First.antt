@@ -33,7 +33,7 @@ use Rattle.stream.specs.State.{ended, start}
 use Rattle.stream.specs.Steps.{StepResult, doneStep, refusedStep, beginBy, beginSealer, beginOpener, beginSealerFrom, beginOpenerFrom}
 use Rattle.kinphlor.specs.Interface.{emptyNonce, fromC}
 use Rattle.demands.specs.Figures.{over, sum, headerBlocks, wholeWork}
-use Rattle.demands.specs.First.{called, cleared, FirstSeal, FirstOpen, ringTable, FirstRing, headerTable, restTable, FirstHead, FirstBegin, First}
+use Rattle.demands.specs.First.{called, cleared, sealingTable, FirstSeal, openingTable, FirstOpen, ringTable, FirstRing, headerTable, restTable, FirstHead, FirstBegin, First}
 use Rattle.demands.specs.State.{preparedHead, longerHead, begunState}
 use Rattle.demands.specs.Steps.{stepped}
 use Rattle.demands.specs.Table.{answered, FirstDue}
@@ -82,14 +82,23 @@ module _ (key bytes lens input output scratch : List ℕ) where
   abbrev sealingRows : Bool → List Row
   sealingRows empty = headRows empty (sealRows (length input) (length output) (length scratch))
 
+  seal-told : (empty : Bool) (E : Type 0) → Tells empty E → Told (sealingRows empty) (sealingTable key bytes lens input output scratch E)
+  seal-told empty E tells =
+      let is-key = otherwise (key-length (length key)) in
+      let count = below 126 (length lens) in
+      let sums = summed lens (length bytes) in
+      let long = below limit (length input) in
+      let room = below (length output) (length input + 16) in
+      let need = below (length scratch) (max (length input) 16) in
+      (refl, is-key, (refl, tells, (refl, count, (refl, sums, (refl, long, (refl, room, (refl, need, tt)))))))
+
   by-seal : (empty : Bool) (E : Type 0) → Tells empty E → (result : CallResult)
       → result ≡ settle (first (sealingRows empty)) (sealedCall key bytes lens input output scratch) (λ n. refusedCall n output scratch)
       → FirstSeal key bytes lens input output scratch E result
   unfolding put numberIn
   by-seal empty E tells result settled =
-      by-table CallResult numberIn (sealingRows empty) _ result (sealedCall key bytes lens input output scratch) _ (λ n. refusedCall n output scratch) _ settled
-      (otherwise (key-length (length key)) ▸ tells ▸ below 126 (length lens) ▸ summed lens (length bytes) ▸ below limit (length input) ▸ below (length output) (length input + 16)
-      ▸ below (length scratch) (max (length input) 16) ▸ tt)
+      by-table CallResult numberIn (sealingRows empty) (sealingTable key bytes lens input output scratch E) result (sealedCall key bytes lens input output scratch) _ (λ n. refusedCall n output scratch) _ settled
+      (seal-told empty E tells)
       refl refl (λ n. refl)
       (λ e.
       let works = sealed-lengths key bytes lens input (omega (arith, sums-past empty (sealRows (length input) (length output) (length scratch)) 0 (inl refl) e)) ∙ work-all lens (length input) in
@@ -102,6 +111,18 @@ module _ (key bytes lens input output scratch : List ℕ) where
   abbrev openingRows : Bool → List Row
   openingRows empty = headRows empty textRows
 
+  open-told : (empty : Bool) (E : Type 0) → Tells empty E → Told (openingRows empty) (openingTable key bytes lens input output scratch E)
+  open-told empty E tells =
+      let is-key = otherwise (key-length (length key)) in
+      let count = below 126 (length lens) in
+      let sums = summed lens (length bytes) in
+      let short = below (length input) 16 in
+      let long = below 1048592 (length input) in
+      let room = below (length output) (length input - 16) in
+      let need = below (length scratch) (max (length input - 16) 16) in
+      let forged = otherwise (is-genuine key ss input) in
+      (refl, is-key, (refl, tells, (refl, count, (refl, sums, (refl, short, (refl, long, (refl, room, (refl, need, (refl, forged, tt)))))))))
+
   abbrev refused : ℕ → CallResult
   refused = forgedOr (forgedCall key bytes lens input output scratch) (λ n. refusedCall n output scratch)
 
@@ -113,9 +134,8 @@ module _ (key bytes lens input output scratch : List ℕ) where
       → FirstOpen key bytes lens input output scratch E result
   unfolding put numberIn
   by-open empty E tells result settled =
-      by-table CallResult numberIn (openingRows empty) _ result (openedCall key bytes lens input output scratch) _ refused _ settled
-      (otherwise (key-length (length key)) ▸ tells ▸ below 126 (length lens) ▸ summed lens (length bytes) ▸ below (length input) 16 ▸ below 1048592 (length input)
-      ▸ below (length output) (length input - 16) ▸ below (length scratch) (max (length input - 16) 16) ▸ otherwise (is-genuine key ss input) ▸ tt)
+      by-table CallResult numberIn (openingRows empty) (openingTable key bytes lens input output scratch E) result (openedCall key bytes lens input output scratch) _ refused _ settled
+      (open-told empty E tells)
       refl refl (forged-number numberIn (forgedCall key bytes lens input output scratch) (λ n. refusedCall n output scratch) refl (λ n. refl))
       (λ e. ap (λ (w : ℕ). called 0 (length input - 16) w (openedCall key bytes lens input output scratch .output) (cleared scratch (length input - 16))) (works 0 (inl refl) e))
       (λ n e. leaves n e (ℕ-discrete n 8))
@@ -204,10 +224,17 @@ module _ (keyLength : ℕ) (ring bytes lens input output scratch : List ℕ) whe
 
     due : FirstDue (ringTable keyLength ring bytes lens input output scratch E) (first (front ++ back))
     due =
+        let is-key = otherwise (key-length keyLength) in
+        let is-ring = otherwise (ring-length keyLength (length ring)) in
+        let sums = summed lens (length bytes) in
+        let short = below (length input) 16 in
+        let long = below 1048592 (length input) in
+        let room = below (length output) (length input - 16) in
+        let need = below (length scratch) (max (length input - 16) 16) in
+        let forged = none-genuine keyLength ring (strings bytes lens) input count in
+        let many = below 126 (length lens) in
         first-due (front ++ back) (ringTable keyLength ring bytes lens input output scratch E)
-        (otherwise (key-length keyLength) ▸ otherwise (ring-length keyLength (length ring)) ▸ tells ▸ below 126 (length lens) ▸ summed lens (length bytes) ▸ below (length input) 16
-        ▸ below 1048592 (length input) ▸ below (length output) (length input - 16) ▸ below (length scratch) (max (length input - 16) 16)
-        ▸ none-genuine keyLength ring (strings bytes lens) input count ▸ tt)
+        (refl, is-key, (refl, is-ring, (refl, tells, (refl, many, (refl, sums, (refl, short, (refl, long, (refl, room, (refl, need, (refl, forged, tt))))))))))
 
     abbrev work : ℕ
     work = wholeWork lens (length input - 16)
@@ -289,14 +316,14 @@ module _ (key bytes lens : List ℕ) where
       → result ≡ beginBy (first (headerRowsWith other)) (headOfWork (strings bytes lens)) (headOf key (strings bytes lens)) stage v
       → FirstBegin (headerTable key bytes lens B) result (2 + headerBlocks lens) (begunState (preparedHead key (strings bytes lens)) stage v)
   by-begin other B tells stage v result settled =
-      by-table StepResult (λ (r : StepResult). r .outcome .number) (headerRowsWith other) _ result (doneStep 0 (headOfWork (strings bytes lens)) (start (headOf key (strings bytes lens)) stage v) []) _
+      by-table StepResult (λ (r : StepResult). r .outcome .number) (headerRowsWith other) (headerTable key bytes lens B) result (doneStep 0 (headOfWork (strings bytes lens)) (start (headOf key (strings bytes lens)) stage v) []) _
       (λ n. refusedStep n ended []) _ settled (header-told other B tells) refl refl (λ n. refl)
       (λ e. ap₂ (λ (w : ℕ) (h : Head). stepped 0 0 w (begunState h stage v) []) (made other e .1) (made other e .0)) (λ n e. refl)
 
   making : FirstHead (headerTable key bytes lens ⊥) (makeHead key bytes lens) (2 + headerBlocks lens) (preparedHead key (strings bytes lens))
   unfolding makeHead
   making =
-      by-table MakeResult (λ (r : MakeResult). r .outcome .number) (headerRowsWith false) _ _ (madeHead (headOfWork (strings bytes lens)) (headOf key (strings bytes lens))) _ refusedHead _ refl
+      by-table MakeResult (λ (r : MakeResult). r .outcome .number) (headerRowsWith false) (headerTable key bytes lens ⊥) _ (madeHead (headOfWork (strings bytes lens)) (headOf key (strings bytes lens))) _ refusedHead _ refl
       (header-told false ⊥ never) refl refl (λ n. refl)
       (λ e. ap₂ madeHead (made false e .1) (made false e .0)) (λ n e. refl)
 
@@ -319,14 +346,14 @@ module _ (h : Head) (bytes lens : List ℕ) where
       → FirstBegin (restTable h bytes lens B) result (headerBlocks lens) (begunState (longerHead h (strings bytes lens)) stage v)
   unfolding extended
   by-begin-from other B tells stage v result settled =
-      by-table StepResult (λ (r : StepResult). r .outcome .number) (restRowsWith other) _ result (doneStep 0 (extendedWork (strings bytes lens)) (start (extended h (strings bytes lens)) stage v) []) _
+      by-table StepResult (λ (r : StepResult). r .outcome .number) (restRowsWith other) (restTable h bytes lens B) result (doneStep 0 (extendedWork (strings bytes lens)) (start (extended h (strings bytes lens)) stage v) []) _
       (λ n. refusedStep n ended []) _ settled (rest-told other B tells) refl refl (λ n. refl)
       (λ e. ap (λ (w : ℕ). stepped 0 0 w (begunState (longerHead h (strings bytes lens)) stage v) []) (rest-work other e)) (λ n e. refl)
 
   extending : FirstHead (restTable h bytes lens ⊥) (extendHead h bytes lens) (headerBlocks lens) (longerHead h (strings bytes lens))
   unfolding extendHead extended
   extending =
-      by-table MakeResult (λ (r : MakeResult). r .outcome .number) (restRowsWith false) _ _ (madeHead (extendedWork (strings bytes lens)) (extended h (strings bytes lens))) _ refusedHead _ refl
+      by-table MakeResult (λ (r : MakeResult). r .outcome .number) (restRowsWith false) (restTable h bytes lens ⊥) _ (madeHead (extendedWork (strings bytes lens)) (extended h (strings bytes lens))) _ refusedHead _ refl
       (rest-told false ⊥ never) refl refl (λ n. refl)
       (λ e. ap (λ (w : ℕ). madeHead w (longerHead h (strings bytes lens))) (rest-work false e)) (λ n e. refl)
 

@@ -15,7 +15,7 @@ use Rattle.demands.specs.Figures.{sum}
 use Rattle.demands.specs.First.{IsList, IsWorstList, worstTable, FirstWorst}
 use Rattle.demands.specs.Table.{answered, FirstDue}
 use Rattle.demands.proofs.Figures.{Fails, unless, equal, either, not-below, judges, one-of, total-sum, blocks-all}
-use Rattle.demands.proofs.Table.{_▸_, first-due}
+use Rattle.demands.proofs.Table.{first-due}
 
 -- ---- lists
 
@@ -85,7 +85,7 @@ by-plan h k least {outcome} g =
     record {
       answer = g .answer ∙ ap (λ (n : ℕ). answered n 0 0) (sym number);
       ordered = refl;
-      first = subst (FirstDue (worstTable h k least)) (sym number) (first-due (planRows h k least) (worstTable h k least) (judges (twelve h k least) ▸ tt));
+      first = subst (FirstDue (worstTable h k least)) (sym number) (first-due (planRows h k least) (worstTable h k least) (refl, judges (twelve h k least), tt));
       done = λ e. worst-list (g .done (sym number ∙ e));
       refused = λ e. g .refused (λ z. omega (arith, sym e ∙ number ∙ z));
     }

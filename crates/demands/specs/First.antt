@@ -70,7 +70,7 @@ Genuine key ss y = tagOf key ss (opened key y) ≡ take 16 y
 
 module _ (key bytes lens input output scratch : List ℕ) where
   -- sealing, from Rattle and from C, where 10 is judged too
-  abbrev sealingTable : Type 0 → List Row
+  abbrev pub sealingTable : Type 0 → List Row
   sealingTable emptyNonce =
       row 1 (IsKeyLength (length key) → ⊥)
       ∷ row 10 emptyNonce
@@ -89,7 +89,7 @@ module _ (key bytes lens input output scratch : List ℕ) where
       (λ n. called n 0 0 output scratch)
 
   -- opening, from Rattle and from C
-  abbrev openingTable : Type 0 → List Row
+  abbrev pub openingTable : Type 0 → List Row
   openingTable emptyNonce =
       row 1 (IsKeyLength (length key) → ⊥)
       ∷ row 10 emptyNonce
