@@ -35,9 +35,9 @@ struct State {
 
 // What the key expansion answers, each case with its number.
 pub enum KeyAnswer {
-    // 0.
+    // Number 0: the round keys are those of the key.
     Expanded,
-    // 1: the key has not 16, 24 or 32 bytes.
+    // Number 1: the key's length is not 16, 24 or 32.
     Refused,
 }
 

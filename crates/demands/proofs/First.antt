@@ -43,7 +43,7 @@ use Rattle.demands.proofs.Parts.{from-c-parts, ring-parts}
 use Rattle.demands.proofs.Pieces.{head-figures}
 use Rattle.demands.proofs.Plans.{by-plan}
 use Rattle.demands.proofs.Slots.{noSlot, is-genuine, none-genuine, chosen-noSlot, ring-case-from-c}
-use Rattle.demands.proofs.Table.{Told, _▸_, first-due, skips, forged-number, by-table}
+use Rattle.demands.proofs.Table.{Told, first-due, skips, forged-number, by-table}
 
 -- ---- the header list
 
@@ -303,7 +303,11 @@ module _ (key bytes lens : List ℕ) where
   headerRowsWith other = headerRows (length key) lens (length bytes) ++ (row 5 other ∷ [])
 
   header-told : (other : Bool) (B : Type 0) → Tells other B → Told (headerRowsWith other) (headerTable key bytes lens B)
-  header-told other B tells = otherwise (key-length (length key)) ▸ below 126 (length lens) ▸ summed lens (length bytes) ▸ tells ▸ tt
+  header-told other B tells =
+      let is-key = otherwise (key-length (length key)) in
+      let count = below 126 (length lens) in
+      let sums = summed lens (length bytes) in
+      (refl, is-key, (refl, count, (refl, sums, (refl, tells, tt))))
 
   -- the head of an admitted list, and its work
   made : (other : Bool) → first (headerRowsWith other) ≡ 0
@@ -334,7 +338,10 @@ module _ (h : Head) (bytes lens : List ℕ) where
   rest-told : (other : Bool) (B : Type 0) → Tells other B → Told (restRowsWith other) (restTable h bytes lens B)
   unfolding fitsHead
   rest-told other B tells =
-      judges (one-of (unless (key-width (h .width))) (not-below 126 (h .count))) ▸ below 126 (h .count + length lens) ▸ summed lens (length bytes) ▸ tells ▸ tt
+      let fits = judges (one-of (unless (key-width (h .width))) (not-below 126 (h .count))) in
+      let count = below 126 (h .count + length lens) in
+      let sums = summed lens (length bytes) in
+      (refl, fits, (refl, count, (refl, sums, (refl, tells, tt))))
 
   rest-work : (other : Bool) → first (restRowsWith other) ≡ 0 → extendedWork (strings bytes lens) ≡ headerBlocks lens
   rest-work other e =

@@ -34,7 +34,7 @@ use Rattle.demands.specs.Steps.{place, NineButTailLength, ByRule, Nine, 
 use Rattle.demands.specs.Table.{order, keeps, FirstDue, ByTable}
 use Rattle.demands.proofs.Figures.{Tells, Fails, unless, below, not-below, equal, judges, otherwise, one-of, key-width, zeros, alike-bytes}
 use Rattle.demands.proofs.Pieces.{front-zeros, passed-chained, piece-work, added-work, tag-of-state-work}
-use Rattle.demands.proofs.Table.{Told, _▸_, first-due, forged-number, by-table}
+use Rattle.demands.proofs.Table.{Told, first-due, forged-number, by-table}
 
 -- ---- 9
 
@@ -100,12 +100,14 @@ stepRows fit s shared finish = row 9 (not (fit 3)) ∷ row 6 (ltb (length shared
 told-step : (N : ℕ → Stream → Type 0) (s : Stream) (shared : List ℕ) (c : Call) → ((wanted : ℕ) → Fails (fits wanted s) (N wanted s))
     → Told (stepRows (λ wanted. fits wanted s) s shared c) (stepTable N s shared c)
 unfolding tagOfState tailLength
-told-step N s shared (add piece) f = judges (f 1) ▸ below limit (s .total + length piece) ▸ tt
-told-step N s shared (turn output) f = judges (f 1) ▸ below (length output) 16 ▸ tt
-told-step N s shared (write piece output) f = judges (f 2) ▸ below (s .total) (s .written + length piece) ▸ below (length output) (length piece) ▸ tt
-told-step N s shared close f = judges (one-of (f 2) (not-below (s .written) (s .total))) ▸ tt
-told-step N s shared (feed piece) f = judges (f 3) ▸ below limit (s .total + length piece) ▸ below (length shared) (s .total + length piece) ▸ tt
-told-step N s shared finish f = judges (f 3) ▸ below (length shared) (s .total) ▸ otherwise (alike-bytes (tagOfState s) (s .v)) ▸ tt
+told-step N s shared (add piece) f = (refl, judges (f 1), (refl, below limit (s .total + length piece), tt))
+told-step N s shared (turn output) f = (refl, judges (f 1), (refl, below (length output) 16, tt))
+told-step N s shared (write piece output) f =
+    (refl, judges (f 2), (refl, below (s .total) (s .written + length piece), (refl, below (length output) (length piece), tt)))
+told-step N s shared close f = (refl, judges (one-of (f 2) (not-below (s .written) (s .total))), tt)
+told-step N s shared (feed piece) f =
+    (refl, judges (f 3), (refl, below limit (s .total + length piece), (refl, below (length shared) (s .total + length piece), tt)))
+told-step N s shared finish f = (refl, judges (f 3), (refl, below (length shared) (s .total), (refl, otherwise (alike-bytes (tagOfState s) (s .v)), tt)))
 
 -- ---- what a piece leaves
 

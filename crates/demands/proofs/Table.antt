@@ -23,11 +23,6 @@ Told [] (r ∷ rs) = ⊥
 Told (t ∷ ts) [] = ⊥
 Told (t ∷ ts) (r ∷ rs) = (t .number ≡ r .number) × Tells (t .due) (r .due) × Told ts rs
 
--- row by row
-infixr 10 _▸_
-pub _▸_ : {n : ℕ} {t : Bool} {P A : Type 0} → Tells t P → A → (n ≡ n) × Tells t P × A
-told ▸ rest = (refl, told, rest)
-
 pub first-due : (ts : List Tested) (rs : List Row) → Told ts rs → FirstDue rs (first ts)
 first-due [] [] e = refl
 first-due [] (r ∷ rs) e = absurd e

@@ -17,7 +17,7 @@ use Rattle.stream.specs.declared.Stream.{Stream}
 use Rattle.demands.specs.Figures.{tailCount, chained}
 
 -- the halves of a key: the first serves S2V, the second the counter
-abbrev pub firstHalf : List ℕ → List ℕ
+abbrev firstHalf : List ℕ → List ℕ
 firstHalf key = take (length key / 2) key
 
 abbrev pub secondHalf : List ℕ → List ℕ
@@ -33,6 +33,7 @@ blockBegun E v n = cond (eqb (n % 16) 0) (replicate 16 0) (E (counterBlock (init
 
 -- ---- heads
 
+-- all fields zero
 abbrev pub blankHead : Head
 blankHead =
     record {
