@@ -225,7 +225,7 @@ static void worst_header(void) {
         size_t header_len, count, least;
         uint32_t blocks;
     } rows[] = {
-        {17, 126, 0, 2 + 125}, /* the two checks of slip 6 of document 02 */
+        {17, 126, 0, 2 + 125}, /* the two figures of rule 16.3 */
         {142, 126, 1, 2 + 125},
         {0, 1, 0, 1},
         {0, 126, 0, 126},

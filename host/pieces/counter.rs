@@ -1,4 +1,4 @@
-//! Counter mode, by document 01.
+//! Counter mode, by rules 7.2 and 7.3.
 
 use shared::mac::Block;
 use std::ops::Range;

@@ -1,4 +1,4 @@
-//! The state that stands where the model is, field by field as document 01 has them, with libcrypto's AES.
+//! The state that stands where the model is, field by field as rule 9.2 has them, with libcrypto's AES.
 
 use crate::aes;
 use crate::head::Head;

@@ -1,4 +1,4 @@
-//! The reference model, document 01's plain book: what any list of calls after a begin must answer. It sees the
+//! The reference model of rules 10.2 to 10.8: what any list of calls after a begin must answer. It sees the
 //! arguments of begin and of the calls, and no state, and has tags, openings and AES from the peers.
 
 use crate::call::{Call, Kind};

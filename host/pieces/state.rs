@@ -116,7 +116,7 @@ impl State {
     }
 }
 
-/// The length of the tail: document 01's hold.
+/// The length of the tail, rule 9.10.
 pub fn tail_len(total: u64) -> usize {
     if total < 16 { total as usize } else { 16 + (total % 16) as usize }
 }

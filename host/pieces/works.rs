@@ -1,5 +1,5 @@
 //! The work of calls at every short length: whole calls under keys and rings, heads and what begins from them;
-//! what is planned; and records behind the worst headers. Each call's work is held against the sum of slip 5
+//! what is planned; and records behind the worst headers. Each call's work is held against the sum of rule 15.2
 //! where the call is made (whole::run, heads::made, heads::record), and that sum here against a count of what
 //! goes through the cipher of a plain AES-SIV.
 
@@ -115,7 +115,7 @@ fn splits(random: &mut Random, context: &Context, plain: &[u8], sealed: &[u8]) {
     }
 }
 
-/// Lengths that are planned and not run: at the bounds, where the sum is slip 5's, and past them, where it is 0.
+/// Lengths that are planned and not run: at the bounds, where the sum is rule 15.2's, and past them, where it is 0.
 fn plans() {
     let most = u32::MAX;
     for (lens, n, admitted) in [

@@ -1,4 +1,4 @@
-//! Work in blocks from lengths alone, by slip 5 of document 02.
+//! Work in blocks from lengths alone, by rule 15.2.
 
 /// L, made once, and the CMAC of the zero block.
 pub const KEY: u64 = 2;

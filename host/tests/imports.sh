@@ -37,9 +37,9 @@ compare() {
 scratch=$(mktemp -d)
 trap 'rm -rf "$scratch"' EXIT
 
-# Document 01 wants the twelve cases shown of the written definitions, the tail's length among them.
+# The twelve cases are shown of the written definitions, rule 2.6, the tail's length among them.
 list >"$scratch/cases" <<'END'
-the standards' functions, and document 01's hold
+the standards' functions, and the tail's length
  field.specs.Field mul sbox
  cmac.specs.Cmac double pad
  s2v.specs.S2v xorend tailLength
@@ -47,7 +47,7 @@ the standards' functions, and document 01's hold
 END
 
 list >"$scratch/statements" <<'END'
-the standards' functions, xors, and document 01's strings
+the standards' functions, xors, and the header strings
  octets.specs.Octets xors
  aes.specs.Aes aes
  aes.specs.Cipher cipher

@@ -89,7 +89,7 @@ fn greedy(header_len: usize, count: usize, least: usize) -> u64 {
     }
 }
 
-/// Slip 6's two checks, the edges of every figure, and random figures of every size.
+/// Rule 16.3's two figures, the edges of every figure, and random figures of every size.
 pub fn greedy_lists(Cases { random, .. }: &mut Cases) {
     gives(17, 126, 0, 127);
     gives(142, 126, 1, 127);

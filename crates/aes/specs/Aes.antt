@@ -20,7 +20,7 @@ isWidth n = eqb n 16 || eqb n 24 || eqb n 32
 unfoldable pub aes : List ℕ → List ℕ → List ℕ
 aes key block = cipher (length key) (roundKeys key) block
 
--- document 01's number for what the key expansion answers: 1 for a key of another length
+-- the number of what the key expansion answers, rule 4.5: 1 for a key of another length
 abbrev pub keyNumber : KeyAnswer → ℕ
 keyNumber Expanded = 0
 keyNumber Refused = 1

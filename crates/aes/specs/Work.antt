@@ -1,4 +1,4 @@
--- Work in blocks, slip 5 of document 02: each cipher call reports its one block, and what stands above adds these up.
+-- Work in blocks, rule 15.1: each cipher call reports its one block, and what stands above adds these up.
 -- Assumes nothing.
 use mathlib.Core.Path.{_≡_}
 use mathlib.Core.List.{List}

@@ -1,4 +1,4 @@
--- What a call answers: document 01's table of answers.
+-- What a call answers: the table of docs/RULES.md, section 3.
 -- Assumes nothing.
 use mathlib.Core.Path.{_≡_}
 use mathlib.Core.Bool.{Bool, cond}

@@ -38,7 +38,7 @@ subkeys l = record { k1 = double l; k2 = double (double l) }
 unfoldable pub pad : List ℕ → List ℕ
 pad s = s ++ (0x80 ∷ replicate (15 - length s) 0)
 
--- slip 3 of document 02, at all lengths: s and then 80, xored into the front of c, give what xoring the padded s gives
+-- rule 5.4, at all lengths: s and then 80, xored into the front of c, give what xoring the padded s gives
 abbrev pub PaddingFolds : Type 0
 PaddingFolds = (c s : List ℕ) → xors c (s ++ (0x80 ∷ [])) ≡ xors c (pad s)
 

@@ -1,4 +1,4 @@
--- Slip 1's promises hold: a ring opens what one of its keys opens, with the smallest such slot.
+-- Rules 12.2 to 12.4 hold: a ring opens what one of its keys opens, with the smallest such slot.
 -- Assumes nothing.
 use mathlib.Core.Path.{_≡_, refl, ap, ap₂, sym, subst, _∙_}
 use mathlib.Core.Bool.{Bool, true, false, false≢true, cond, and-false}

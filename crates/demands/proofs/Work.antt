@@ -1,5 +1,4 @@
--- Slip 5's promises hold: calls report what was planned,
--- the answers of a list add up, and the kept block is the key stream's own.
+-- Rules 15.4, 15.6 and 15.9 hold: calls report what was planned, and the answers of a list add up.
 -- Assumes nothing.
 use mathlib.Core.Path.{_≡_, refl, ap, ap₂, sym, _∙_}
 use mathlib.Core.Bool.{Bool, true, false, cond, _&&_, or-true}

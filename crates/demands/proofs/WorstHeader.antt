@@ -1,5 +1,5 @@
--- Slip 6's promises hold: 12 is due under its conditions alone,
--- both checks give 127, and the calls report the blocks that are given.
+-- Rules 16.2, 16.3 and 16.5 hold: there is a worst list, both figures are 127,
+-- and the calls report the blocks that are given.
 -- Assumes nothing.
 use mathlib.Core.Path.{_≡_, refl, ap, sym, subst, _∙_}
 use mathlib.Core.List.{List}

@@ -1,4 +1,4 @@
--- The twelve cases that document 01 wants shown of the written definitions, as one statement.
+-- Twelve worked cases of the written definitions, rule 2.6, as one statement.
 -- Assumes nothing.
 use mathlib.Core.Path.{_≡_}
 use mathlib.Core.List.{List, [], _∷_, _++_, map}

@@ -1,4 +1,4 @@
--- The figures of documents 01 and 02 that the statements here share. They lean on no other crate.
+-- The owner's figures that the statements here share. They lean on no other crate.
 -- Assumes nothing.
 use mathlib.Core.Path.{_≡_}
 use mathlib.Core.Bool.{cond}
@@ -18,7 +18,7 @@ IsKeyLength n = (n ≡ 32) ⊎ (n ≡ 48) ⊎ (n ≡ 64)
 abbrev pub IsKeyWidth : ℕ → Type 0
 IsKeyWidth n = (n ≡ 16) ⊎ (n ≡ 24) ⊎ (n ≡ 32)
 
--- slip 1: so many bytes are one to four whole keys of a length
+-- rule 12.1: so many bytes are one to four whole keys of a length
 abbrev pub IsRingLength : ℕ → ℕ → Type 0
 IsRingLength keyLength n = (slots : ℕ) × (1 ≤ slots) × (slots ≤ 4) × (n ≡ slots * keyLength)
 
@@ -41,7 +41,7 @@ unfoldable pub sum : List ℕ → ℕ
 sum [] = 0
 sum (n ∷ lens) = n + sum lens
 
--- how many bytes of a plaintext wait for its end, "the hold" of document 01:
+-- how many bytes of a plaintext wait for its end, rule 9.10:
 -- total itself below 16, else 16 + total mod 16
 abbrev pub tailCount : ℕ → ℕ
 tailCount total = cond (ltb total 16) total (16 + total % 16)
@@ -50,7 +50,7 @@ tailCount total = cond (ltb total 16) total (16 + total % 16)
 abbrev pub chained : ℕ → ℕ
 chained n = n / 16 - 1
 
--- ---- work in blocks: slip 5
+-- ---- work in blocks: rule 15.2
 
 -- n divided by 16, rounded up
 abbrev pub sixteenths : ℕ → ℕ

@@ -1,5 +1,5 @@
 -- The first demand: every call gives the complete result, or the one refusal that is first due,
--- with state and buffers as document 01's table says, and the work that slip 5 of document 02 says.
+-- with state and buffers as rules 3.4 and 3.5 say, and the work of rules 15.2 to 15.5.
 -- The six piecewise calls' table, with 9 in full, and what they give and leave are in Steps.antt.
 -- Assumes nothing.
 use mathlib.Core.Path.{_≡_}
@@ -31,7 +31,7 @@ use Rattle.demands.specs.Table.{answered, Row, row, order, keeps, FirstD
 
 -- ---- answers
 
--- every case of an answer has document 01's number, or 02's; a refusal has length 0
+-- every case of an answer has its number, rule 3.1; a refusal has length 0
 pub record Numbers (w : ℕ) : Type 0 where
   pub ok : (n : ℕ) → outcomeOf (Ok n) w ≡ answered 0 n w
   pub keyLength : outcomeOf (Refused KeyLength) w ≡ answered 1 0 w

@@ -1,4 +1,4 @@
--- Slip 2 of document 02: a header list divided into a head and the rest gives what the undivided list gives.
+-- Rules 13.2, 13.3 and 13.5: a header list divided into a head and the rest gives what the undivided list gives.
 -- Assumes nothing.
 use mathlib.Core.Path.{_≡_}
 use mathlib.Core.List.{List, _++_}
@@ -34,7 +34,7 @@ pub record Split (key bytes lens : List ℕ) (n : ℕ) : Type 0 where
 
 -- What a user of heads may rely on.
 pub record Heads : Type 0 where
-  -- any key and header list that document 01 admits, divided anywhere
+  -- any admitted key and header list, divided anywhere
   pub splits : (key bytes lens : List ℕ) → Admits key bytes lens → (n : ℕ) → Split key bytes lens n
   -- and whatever follows a head so made, admitted or not,
   -- a begin answers as with the joined list: 126 bounds both together

@@ -1,5 +1,5 @@
--- The reference model, "the plain book" of document 01: what every list of piecewise calls gives,
--- told from the arguments of begin and of the calls alone; with the work of slip 5 of document 02, from lengths alone.
+-- The reference model, "the plain book" of the owner's document 01: what every list of piecewise calls gives,
+-- told from the arguments of begin and of the calls alone (rules 10.2 to 10.8); the work is from lengths alone.
 -- Assumes nothing.
 use mathlib.Core.Bool.{Bool, false, cond, _||_}
 use mathlib.Core.List.{List, [], _∷_, _++_}

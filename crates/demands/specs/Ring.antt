@@ -1,4 +1,4 @@
--- Slip 1 of document 02: what opens under a ring of keys, and with which slot.
+-- Rules 12.2 to 12.4: what opens under a ring of keys, and with which slot.
 -- Assumes nothing.
 use mathlib.Core.Path.{_≡_}
 use mathlib.Core.Bool.{cond}

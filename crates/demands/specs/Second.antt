@@ -10,13 +10,13 @@ use Rattle.whole.specs.Siv.{sealed}
 use Rattle.demands.specs.Figures.{IsKeyLength, over, sum, wholeWork}
 use Rattle.demands.specs.Table.{answered}
 
--- a key and a header list that document 01 admits
+-- an admitted key and header list: none of 1, 2 and 3 is due
 pub record Admits (key bytes lens : List ℕ) : Type 0 where
   pub keyed : IsKeyLength (length key)
   pub countFits : length lens ≤ 126
   pub sums : sum lens ≡ length bytes
 
--- a call succeeded, with the work that slip 5 of document 02 says,
+-- a call succeeded, with a work,
 -- and put s, and nothing else, to the front of the output
 abbrev pub Gives : CallResult → ℕ → List ℕ → List ℕ → Type 0
 Gives result work output s = (result .outcome ≡ answered 0 (length s) work) × (result .output ≡ over output 0 s)

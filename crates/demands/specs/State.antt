@@ -1,5 +1,5 @@
 -- Prepared heads and stream states, field by field.
--- Document 01, "Piecewise calls", and slips 2, 4 and 5 of document 02.
+-- Rules 9.2, 9.3, 9.10, 13.1 and 15.8.
 -- Assumes nothing.
 use mathlib.Core.Bool.{cond}
 use mathlib.Core.List.{List, _++_}

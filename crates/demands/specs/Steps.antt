@@ -1,5 +1,5 @@
 -- The six piecewise calls on any given state: their refusals, what these leave, and what success gives.
--- Document 01, "Piecewise calls" and "Table of answers", and slips 4 and 5 of document 02.
+-- Rules 3.4, 3.5, 9.4 to 9.12 and 15.7.
 -- Assumes nothing.
 use mathlib.Core.Path.{_≡_}
 use mathlib.Core.Bool.{cond}
@@ -38,7 +38,7 @@ NineButTailLength wanted s =
     ⊎ (IsZero (drop (tailCount (s .total)) (s .tail)) → ⊥)
     ⊎ ((place wanted s % 16 ≡ 0) × (IsZero (s .kept) → ⊥))
 
--- slip 4: the tail's length is document 01's figure for the state's total
+-- rule 14.1: the tail's length is the figure of rule 9.10 for the state's total
 abbrev pub ByRule : Stream → Type 0
 ByRule s = s .«tail_len» ≡ tailCount (s .total)
 

@@ -20,7 +20,7 @@ pub record Row : Type 1 where
 abbrev pub row : ℕ → Type 0 → Row
 row n due = record { number = n; due = due }
 
--- document 01's order of refusals, with document 02's 11 straight after 1; 12 is alone in its table
+-- the order of refusals, rule 3.2; 12 is alone in its table
 abbrev pub order : List ℕ
 order = 9 ∷ 1 ∷ 11 ∷ 10 ∷ 2 ∷ 3 ∷ 5 ∷ 4 ∷ 6 ∷ 7 ∷ 8 ∷ 12 ∷ []
 

@@ -1,4 +1,4 @@
--- Slip 4 of document 02: the tail's length is a field of the state, by document 01's rule;
+-- Rules 14.1 and 14.3: the tail's length is a field of the state, by rule 9.10;
 -- every other answer is what it is without the field.
 -- Assumes nothing.
 use mathlib.Core.Path.{_≡_}

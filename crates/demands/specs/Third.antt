@@ -130,7 +130,7 @@ module _ (key bytes lens : List ℕ) where
       -- and its plaintext or zeros, and nothing else
       pub plaintext : finished .output ≡ over shared 0 (take (length (fed T shared calls)) (openCall key bytes lens (T ++ fed T shared calls) output scratch .output))
 
--- The third demand: any key and header list that document 01 admits;
+-- The third demand: any admitted key and header list;
 -- lists of calls start from all of it, or from a head of any of its first strings.
 pub record Third (key bytes lens : List ℕ) : Type 0 where
   pub whole : (y output scratch : List ℕ) → length y - 16 ≤ length output → max (length y - 16) 16 ≤ length scratch → ThirdWhole key bytes lens y output scratch

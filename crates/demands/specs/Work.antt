@@ -1,4 +1,4 @@
--- Slip 5 of document 02: the work in blocks that every answer carries.
+-- Rules 15.4, 15.6 and 15.9: the work in blocks that every answer carries.
 -- What each call reports, and the key stream block that a state keeps, are in First.antt and Third.antt.
 -- Assumes nothing.
 use mathlib.Core.Path.{_≡_}
@@ -68,7 +68,7 @@ pub record BlockWork : Type 0 where
   pub plansNone : (lens : List ℕ) (n : ℕ) → (126 < length lens) ⊎ (1048576 < n) → plannedWork lens n ≡ 0
   pub plansFromC : (ad nonce n : ℕ) → (nonce ≡ 0 → ⊥) → n ≤ 1048576 → plannedFromC ad nonce n ≡ wholeWork (ad ∷ nonce ∷ []) n
   pub plansNoneFromC : (ad nonce n : ℕ) → (nonce ≡ 0) ⊎ (1048576 < n) → plannedFromC ad nonce n ≡ 0
-  -- any key and header list that document 01 admits,
+  -- any admitted key and header list,
   -- from all of it or from a head of any of its first strings; sealers end by close
   pub sealers : (key bytes lens : List ℕ) → Admits key bytes lens → (start : Start) (shared : List ℕ) (calls : List Call) → AddsUp key bytes lens sealer shared calls start
   -- and openers by either verdict

@@ -1,4 +1,4 @@
--- Slip 6 of document 02: what a gym may rely on of the worst header list, whichever list was given.
+-- Rules 16.2, 16.3 and 16.5: what a gym may rely on of the worst header list, whichever list was given.
 -- When 12 is due, and that list and blocks are zero then, is in First.antt.
 -- Assumes nothing.
 use mathlib.Core.Path.{_≡_}
@@ -17,7 +17,7 @@ use Rattle.demands.specs.Work.{Reported}
 
 -- the blocks that were given are what sealing and opening report for a header
 pub record AsReported (h k least : ℕ) (places : List ℕ) (blocks : ℕ) : Type 0 where
-  -- document 01 admits the list that was given, for any h header bytes
+  -- the list that was given is admitted, for any h header bytes
   pub admitted : (key bytes : List ℕ) → IsKeyLength (length key) → length bytes ≡ h → Admits key bytes (take k places)
   -- a record is sealed behind it, and the report has that many blocks for the header
   pub seals : (key bytes p output scratch : List ℕ) → IsKeyLength (length key) → length bytes ≡ h → length p ≤ 1048576 → length p + 16 ≤ length output
@@ -40,7 +40,7 @@ pub record WorstHeaders : Type 0 where
   -- or beyond one byte for each string where none may be empty
   pub figure : (h k least : ℕ) (outcome : Outcome) (places : List ℕ) (blocks : ℕ) → GivesWorst h k least outcome places blocks → outcome .number ≡ 0
       → blocks ≡ k + (h - max 1 (k * least)) / 16
-  -- the two checks of slip 6
+  -- rule 16.3
   pub check1 : (outcome : Outcome) (places : List ℕ) (blocks : ℕ) → GivesWorst 17 126 0 outcome places blocks → blocks ≡ 127
   pub check2 : (outcome : Outcome) (places : List ℕ) (blocks : ℕ) → GivesWorst 142 126 1 outcome places blocks → blocks ≡ 127
   -- the figure is about the real calls

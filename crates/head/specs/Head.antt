@@ -1,5 +1,5 @@
--- A prepared head on every input: number, length, work and the head, from slips 2 and 5 of document 02;
--- RFC 5297 2.4 takes the strings in order, so D over the first can be kept (source document 004, section 4).
+-- A prepared head on every input: number, length, work and the head, rules 13.1 to 13.5 and 15.5;
+-- RFC 5297 2.4 takes the strings in order, so D over the first can be kept (the SIV paper, section 4).
 -- Assumes nothing.
 use mathlib.Core.Path.{_≡_}
 use mathlib.Core.Bool.{Bool, not, _&&_}

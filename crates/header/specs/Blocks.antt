@@ -1,4 +1,4 @@
--- How many blocks of 16 bytes strings have, from their lengths: the words of slip 5 of document 02.
+-- How many blocks of 16 bytes strings have, from their lengths: rule 15.2.
 -- Assumes nothing.
 use mathlib.Core.List.{List, [], _∷_}
 use Prim.Native.Nat.{ℕ, _+_, _/_, max}

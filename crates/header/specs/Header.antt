@@ -11,7 +11,7 @@ unfoldable pub total : List ℕ → ℕ
 total [] = 0
 total (n ∷ lens) = n + total lens
 
--- the header strings of document 01, in order
+-- the header strings in order, rule 6.1
 unfoldable pub strings : List ℕ → List ℕ → List (List ℕ)
 strings bytes [] = []
 strings bytes (n ∷ lens) = take n bytes ∷ strings (drop n bytes) lens

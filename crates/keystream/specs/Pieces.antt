@@ -1,4 +1,4 @@
--- A key stream that is used piece by piece, slip 5 of document 02: the block that a piece begins and does not use up
+-- A key stream that is used piece by piece, rules 15.7 and 15.8: the block that a piece begins and does not use up
 -- is kept for the next one.
 -- Assumes nothing.
 use mathlib.Core.Bool.{cond}

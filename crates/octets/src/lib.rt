@@ -118,7 +118,7 @@ fn still_zero(zero: bool, i: usize, at: usize, b: u8) -> bool
     false
 }
 
-// Whether the bytes of a slice from a place on are zero; it reads all of them, which the compiler does by sixteens.
+// Whether the bytes of a slice from a place on are zero; it reads all of them.
 pub fn zero_from(s: &[u8], at: usize) -> bool
     ensures { λ r. ⌜ r ≡ allZero (drop at (now (s .entry))) ⌝ }
 {

@@ -15,7 +15,7 @@ use stream::Stream;
 use whole::Report;
 
 // What a call answers where a state's buffer has not state::LEN bytes, or a head's not heads::LEN:
-// no number of document 01's.
+// no number of the table of answers.
 const NO_BUFFER: u64 = 0xffffffff00000000;
 
 // Hands a call's work back through a buffer of eight bytes, the lowest first; one of another length stays as it is.

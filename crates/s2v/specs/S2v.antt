@@ -19,7 +19,7 @@ xorend p d = take (length p - 16) p ++ xors (drop (length p - 16) p) d
 unfoldable pub lastString : List ℕ → List ℕ → List ℕ
 lastString d p = cond (ltb (length p) 16) (xors (double d) (pad p)) (xorend p d)
 
--- how many bytes at the end of a plaintext wait for its end: "the hold" of document 01
+-- how many bytes at the end of a plaintext wait for its end, rule 9.10: "the hold" of the owner's document 01
 unfoldable pub tailLength : ℕ → ℕ
 tailLength total = cond (ltb total 16) total (16 + total % 16)
 

@@ -1,5 +1,5 @@
 -- The stream state: which ones a call takes, and what a piece makes of one.
--- Document 01, "Piecewise calls", and slips 4 and 5 of document 02.
+-- Rules 9.2, 9.3, 9.9, 9.10 and 15.8.
 -- Assumes nothing.
 use mathlib.Core.Path.{_≡_}
 use mathlib.Core.Bool.{Bool, not, cond, _&&_, _||_}
@@ -81,7 +81,7 @@ fits wanted s =
     && keptFits wanted s
     && allZero (drop (tailLength (s .total)) (s .tail))
 
--- the used bytes of the tail, which wait for the plaintext's end: "held bytes" of document 01
+-- the used bytes of the tail, which wait for the plaintext's end: "held bytes" of the owner's document 01
 abbrev pub usedTail : Stream → List ℕ
 usedTail s = take (tailLength (s .total)) (s .tail)
 

@@ -44,7 +44,7 @@ pub struct Stream {
     pub total: usize,
     // How many bytes were written: zero in stages 1 and 3.
     pub written: usize,
-    // How many bytes of the tail are used, the length of document 01's hold:
+    // How many bytes of the tail are used, rule 9.10:
     // total itself below 16, else 16 + total mod 16.
     pub tail_len: usize,
     // The plaintext's tail.

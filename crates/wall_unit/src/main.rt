@@ -78,7 +78,7 @@ fn whole(key: &[u8], header: &[u8], plain: &[u8]) {
     }
 }
 
-// By slip 5 of document 02, the head's work is 2 for L and the CMAC of the zero block, and 2, 1 and 1 for strings of
+// By rule 15.2, the head's work is 2 for L and the CMAC of the zero block, and 2, 1 and 1 for strings of
 // 18, 6 and 6 bytes: 6. A record's from the head is 1 for its number, and for 40 bytes of plaintext 3 and,
 // as key stream, 3 again: 7. The whole call's is both: 13.
 fn main() {

@@ -1,5 +1,5 @@
 -- Whole sealing and opening on every input: number, length,
--- work and the last contents of each lent buffer, from document 01 and slip 5 of document 02.
+-- work and the last contents of each lent buffer, by rules 8.1 to 8.5 and 15.2.
 -- Assumes nothing.
 use mathlib.Core.Path.{_≡_}
 use mathlib.Core.Bool.{Bool, true, not, _||_}

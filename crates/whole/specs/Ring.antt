@@ -1,5 +1,5 @@
 -- Whole opening under a ring of keys on every input: number, length, slot,
--- work and the last contents of each lent buffer, from slips 1 and 5 of document 02.
+-- work and the last contents of each lent buffer, by rules 12.1 to 12.4 and 15.4.
 -- Assumes nothing.
 use mathlib.Core.Path.{_≡_}
 use mathlib.Core.Bool.{Bool, true, not, cond, _||_}

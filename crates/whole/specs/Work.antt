@@ -1,4 +1,4 @@
--- The work of whole sealing and opening from lengths alone: the sum in slip 5 of document 02.
+-- The work of whole sealing and opening from lengths alone: the sum of rule 15.2.
 -- Assumes nothing.
 use mathlib.Core.Bool.{cond, _||_}
 use mathlib.Core.List.{List}

@@ -1,4 +1,4 @@
-// The two checks of slip 6 of document 02, and each of its conditions for 12.
+// The two figures of rule 16.3, and each condition for 12, rule 16.4.
 use answers::Answer;
 
 // Prints the blocks of the worst header list, or the number of the refusal.
