@@ -1,7 +1,8 @@
 //! libkinphlor.a beside OpenSSL's and libgcrypt's AES-SIV: times, the stack of a call, and its instructions. It prints
-//! the tables and writes docs/BENCHMARKS.md. Run by make bench, from the repository's root.
+//! the tables and writes docs/BENCHMARKS.md and its picture. Run by make bench, from the repository's root.
 
 mod callgrind;
+mod chart;
 mod head;
 mod machine;
 mod measure;
@@ -12,7 +13,7 @@ mod table;
 mod timing;
 
 use report::Report;
-use timing::MODES;
+use timing::{LENS, MODES};
 
 /// With the name of a mode, the child that measures in it.
 fn main() {
@@ -38,5 +39,6 @@ fn bench() {
     report.section("Pieces against the whole call", pieces::describe());
     report.section("A ring against single calls", ring::describe());
     report.section("From a head against the whole call", head::describe());
-    report.write("docs/BENCHMARKS.md");
+    let panels: Vec<chart::Panel> = runs.iter().map(timing::Run::panel).collect();
+    report.write("docs", &chart::words(&panels), &chart::draw(&LENS, &panels));
 }

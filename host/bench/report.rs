@@ -1,8 +1,12 @@
-//! The report: each section goes to the terminal as it is made, and all of them to a file at the end.
+//! The report: each section goes to the terminal as it is made, and all of them to a page at the end.
 
 use shared::check::fail;
 
-/// The fixed part of the page.
+/// The page and its picture, in the folder of the documents.
+const PAGE: &str = "BENCHMARKS.md";
+const PICTURE: &str = "benchmarks.svg";
+
+/// The fixed part of the page, below the picture.
 const READING: &str = include_str!("reading.md");
 
 pub struct Report {
@@ -20,10 +24,15 @@ impl Report {
         self.sections += &section;
     }
 
-    pub fn write(self, path: &str) {
-        match std::fs::write(path, format!("{}{}", READING, self.sections)) {
-            Ok(()) => println!("\nbench: written to {path}"),
-            Err(error) => fail(format!("{path} cannot be written: {error}")),
+    /// The page with a picture at its head, and what is to be seen there in words.
+    pub fn write(self, folder: &str, words: &str, svg: &str) {
+        let page = format!("# Benchmarks\n\n![{words}]({PICTURE})\n\n{READING}{}", self.sections);
+        for (name, text) in [(PICTURE, svg), (PAGE, &page)] {
+            let path = format!("{folder}/{name}");
+            match std::fs::write(&path, text) {
+                Ok(()) => println!("\nbench: written to {path}"),
+                Err(error) => fail(format!("{path} cannot be written: {error}")),
+            }
         }
     }
 }

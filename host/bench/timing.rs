@@ -1,5 +1,6 @@
 //! Times of sealing and opening beside the peers', in one child process for each choice of the machine's instructions.
 
+use crate::chart::Panel;
 use crate::table::{grouped, rounded, Table};
 use shared::check::fail;
 use shared::library::{Function, KEY_LENS};
@@ -15,6 +16,8 @@ pub const LENS: [usize; 7] = [0, 40, 256, 1_000, 16_384, 65_536, 1_048_576];
 pub struct Mode {
     pub name: &'static str,
     pub title: &'static str,
+    /// the title of its panel in the picture
+    panel: &'static str,
     note: &'static str,
     /// OPENSSL_ia32cap
     openssl: Option<&'static str>,
@@ -26,6 +29,7 @@ pub const MODES: [Mode; 3] = [
     Mode {
         name: "none",
         title: "Times, AES and vector instructions off",
+        panel: "AES and vector instructions off",
         note: "All three run code that any x86-64 processor has the instructions for.",
         openssl: Some("0:0"),
         libgcrypt: c"all",
@@ -33,6 +37,7 @@ pub const MODES: [Mode; 3] = [
     Mode {
         name: "vectors",
         title: "Times, AES instructions off, vector instructions on",
+        panel: "AES off, vector instructions on",
         note: "The peers' ciphers look all bytes of a block up at once, inside vector registers. Kinphlor's does not.",
         openssl: Some("~0x200000000000000:~0x60000000000"),
         libgcrypt: c"intel-aesni,intel-vaes-vpclmul",
@@ -40,6 +45,7 @@ pub const MODES: [Mode; 3] = [
     Mode {
         name: "all",
         title: "Times, AES instructions on",
+        panel: "AES instructions on",
         note: "The ratios are large because the peers use the processor's AES instructions and Kinphlor uses none.",
         openssl: None,
         libgcrypt: c"",
@@ -142,6 +148,13 @@ impl Run {
         }
         let [openssl, libgcrypt] = &self.instructions;
         format!("{}\n\n- OpenSSL says: `{openssl}`\n- libgcrypt says: `{libgcrypt}`\n\n{table}", self.mode.note)
+    }
+
+    /// What the picture shows of it: the ratios for sealing under a key of 32 bytes.
+    pub fn panel(&self) -> Panel {
+        let rows: Vec<&Row> = self.rows.iter().filter(|row| row.key_len == 32 && row.function == Seal).collect();
+        let line = |peer: usize| rows.iter().map(|row| row.theirs[peer].map(|b| b.ratio)).collect();
+        Panel { title: self.mode.panel, lines: [line(0), line(1)] }
     }
 
     /// The largest ratio to OpenSSL at a length, over key widths and both calls.
