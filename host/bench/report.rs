@@ -6,8 +6,9 @@ use shared::check::fail;
 const PAGE: &str = "BENCHMARKS.md";
 const PICTURE: &str = "benchmarks.svg";
 
-/// The fixed part of the page, below the picture.
+/// The fixed parts of the page: below the picture, and at its end.
 const READING: &str = include_str!("reading.md");
+const CHANGES: &str = include_str!("changes.md");
 
 pub struct Report {
     sections: String,
@@ -26,7 +27,7 @@ impl Report {
 
     /// The page with a picture at its head, and what is to be seen there in words.
     pub fn write(self, folder: &str, words: &str, svg: &str) {
-        let page = format!("# Benchmarks\n\n![{words}]({PICTURE})\n\n{READING}{}", self.sections);
+        let page = format!("# Benchmarks\n\n![{words}]({PICTURE})\n\n{READING}{}{CHANGES}", self.sections);
         for (name, text) in [(PICTURE, svg), (PAGE, &page)] {
             let path = format!("{folder}/{name}");
             match std::fs::write(&path, text) {

@@ -34,7 +34,7 @@ fn main() {
     let names = check_names(&tree, &pages, &mut failures);
     check_widths(&pages, &mut failures);
     let links = check_links(&tree, &pages, &mut failures);
-    check_past(&tree, &pages, &mut failures);
+    check_sources(&pages, &mut failures);
     for failure in &failures {
         eprintln!("{failure}");
     }
@@ -367,26 +367,19 @@ fn joined(folder: &str, link: &str) -> String {
     parts.join("/")
 }
 
-/// Documents that were replaced are named nowhere.
-fn check_past(tree: &Tree, pages: &[Page], failures: &mut Vec<String>) {
-    let trace = ["TRACE", ".md"].concat();
-    for file in &tree.files {
-        let lines = std::iter::once(&*file.path).chain(file.text.lines());
-        for (i, _) in lines.enumerate().filter(|(_, line)| line.contains(&trace)) {
-            failures.push(file.at(i.max(1), format!("{trace} was replaced")));
-        }
-    }
+/// Pages cite rules, and not the owner's documents, which are not in the repository.
+fn check_sources(pages: &[Page], failures: &mut Vec<String>) {
     for page in pages {
         for pair in words(&page.file.text).windows(2) {
             let (word, next) = (plain(pair[0].1).to_lowercase(), plain(pair[1].1));
             let digits = next.bytes().take_while(u8::is_ascii_digit).count();
-            let past = match &*word {
+            let cites = match &*word {
                 "document" | "documents" => digits > 1 && next.starts_with('0'),
                 "slip" | "slips" => digits > 0,
                 _ => false,
             };
-            if past {
-                failures.push(page.file.at(pair[0].0, format!("{word} {} was replaced", &next[..digits])));
+            if cites {
+                failures.push(page.file.at(pair[0].0, format!("{word} {} is not in the repository", &next[..digits])));
             }
         }
     }
