@@ -8,49 +8,51 @@ SHELL := /bin/bash
 .SHELLFLAGS := -eu -o pipefail -c
 .DEFAULT_GOAL := test
 SETUPS := setup-test setup-lib setup-demo setup-bench
-.PHONY: test lib demo bench install install-files $(SETUPS)
+COMMANDS := test lib demo bench install install-files
+.PHONY: archive $(COMMANDS) $(SETUPS)
+.SILENT: archive $(COMMANDS) $(SETUPS)
 
 PREFIX ?= /usr/local
-# kinphlor.pc holds it, so it is made absolute.
-override PREFIX := $(abspath $(PREFIX))
+export PREFIX DESTDIR
 VERSION := 0.1.0
 
 # Programs over the archive, and host-test, their tests.
 include host/Makefile
 
 $(SETUPS): setup-%:
-	@host/setup.sh $*
+	host/setup.sh $*
 
+# rt ci starts from nothing, and no stamp is trusted after it.
 test: setup-test
-	@mkdir -p build
-	@rt ci 2>&1 | tee build/ci.log
-	@for crate in kinphlor probe; do \
-	    rt staticlib $$crate >build/staticlib.log || { cat build/staticlib.log; exit 1; }; \
-	done
-	@$(MAKE) --no-print-directory host-test
-	@tail -n 1 build/ci.log
+	mkdir -p build
+	rt ci 2>&1 | tee build/ci.log
+	host/archive.sh kinphlor anew
+	host/archive.sh probe anew
+	$(MAKE) --no-print-directory host-test
+	tail -n 1 build/ci.log
 
-lib: setup-lib
-	@mkdir -p build
-	rt staticlib kinphlor
+archive: setup-lib
+	host/archive.sh kinphlor
+
+lib: archive
 	cp target/staticlib/libkinphlor.a include/kinphlor.h build/
+	echo 'build has libkinphlor.a and kinphlor.h'
 
-demo: setup-demo lib
-	$(call host_cc,demo,host/demo/demo.c)
-	@$(HOST_OUT)/demo
+demo: setup-demo archive
+	$(call host_cc,demo,$(HOST_DEMO))
+	$(HOST_OUT)/demo
 
-bench: setup-bench lib
-	rt staticlib probe
-	@$(MAKE) --no-print-directory host-stack host-bench
-	@$(HOST_OUT)/bench
+bench: setup-bench archive
+	host/archive.sh probe
+	$(MAKE) --no-print-directory -s host-stack host-bench
+	$(HOST_OUT)/bench
 
-install: lib
-	@$(MAKE) --no-print-directory install-files
+# The prefix is looked at first: proving takes minutes.
+install:
+	host/install.sh check
+	$(MAKE) --no-print-directory archive
+	$(MAKE) --no-print-directory install-files
 
 # The files alone, from an archive that is there.
 install-files: $(KINPHLOR_LIB)
-	install -d $(DESTDIR)$(PREFIX)/include $(DESTDIR)$(PREFIX)/lib/pkgconfig
-	install -m 644 include/kinphlor.h $(DESTDIR)$(PREFIX)/include/kinphlor.h
-	install -m 644 $(KINPHLOR_LIB) $(DESTDIR)$(PREFIX)/lib/libkinphlor.a
-	sed -e 's|@PREFIX@|$(PREFIX)|' -e 's|@VERSION@|$(VERSION)|' include/kinphlor.pc.in | \
-	    install -m 644 /dev/stdin $(DESTDIR)$(PREFIX)/lib/pkgconfig/kinphlor.pc
+	host/install.sh $(VERSION) $(KINPHLOR_LIB)

@@ -1,0 +1,54 @@
+#!/usr/bin/env bash
+# archive.sh NAME: target/staticlib/libNAME.a, proved and compiled by rt, unless it is up to date.
+# archive.sh NAME anew: the same, whatever is there.
+# The prover's notes go to build/NAME.log; the terminal has a line for each crate as it is proved, with its time.
+set -eu -o pipefail
+
+name=$1 how=${2-}
+archive=target/staticlib/lib$name.a
+stamp=$archive.sum
+log=build/$name.log
+version=$(rt version)
+
+# The sum of what the archive is made of: rt, crates.txt, and names and contents of all files that rt proves.
+sources() {
+    {
+        echo "$version"
+        find -L crates.txt crates -type f \( -path crates.txt -o -path 'crates/*/src/*' \
+            -o -path 'crates/*/specs/*' -o -path 'crates/*/proofs/*' \) -print0 | LC_ALL=C sort -z | xargs -0 sha256sum
+    } | sha256sum
+}
+
+# made_of SOURCES: what the stamp must say, with the archive's own sum: one that was written over is not up to date.
+made_of() {
+    echo "$1"
+    sha256sum <"$archive"
+}
+
+# From what rt prints, a line for each crate that it proves. The last one has no line of rt's: the archive's is its.
+progress() {
+    local line since=$SECONDS
+    while IFS= read -r line; do
+        if [[ $line =~ ^'rt: '([a-z0-9_]+)' proved ('([0-9]+)' s)'$ ]]; then
+            printf '  %-13s %4s s\n' "${BASH_REMATCH[1]}" "${BASH_REMATCH[2]}"
+        elif [[ $line == "rt: $archive has "* ]]; then
+            printf '  %-13s %4s s\n' "$name" $((SECONDS - since))
+        fi
+        if [[ $line == 'rt: '* ]]; then since=$SECONDS; fi
+    done
+}
+
+mkdir -p build
+before=$(sources)
+if [ "$how" != anew ] && [ -f "$archive" ] && [ -f "$stamp" ] && [ "$(cat "$stamp")" = "$(made_of "$before")" ]; then
+    exit 0
+fi
+rm -f "$stamp"
+echo "proving $name and what it stands on, about two minutes from nothing; notes in $log"
+rt staticlib "$name" 2>&1 | tee "$log" | progress || {
+    echo "kinphlor: $name is not proved. The end of $log:" >&2
+    tail -n 20 "$log" | cut -c 1-300 >&2
+    exit 1
+}
+# A file that was changed meanwhile may or may not be in the archive: then there is no stamp.
+if [ "$(sources)" = "$before" ]; then made_of "$before" >"$stamp"; fi
