@@ -31,6 +31,7 @@ packages_of() {
         rustc*) if grep -qs '^VERSION_ID="12"' /etc/os-release; then echo rustc-web; else echo rustc; fi ;;
         libcrypto.so.3) echo libssl3 ;;
         libgcrypt.so.20) echo libgcrypt20 ;;
+        script) echo bsdutils ;;
         *) echo "$1" ;;
     esac
 }
@@ -68,7 +69,7 @@ rust='rustc>=1.85 libcrypto.so.3 libgcrypt.so.20'
 case ${1-} in
     lib) needs='' ;;
     demo) needs='cc' ;;
-    test) needs="make cc g++ $rust" ;;
+    test) needs="make cc g++ script $rust" ;;
     bench) needs="cc $rust valgrind" ;;
     where)
         where "$2"
