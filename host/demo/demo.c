@@ -316,8 +316,9 @@ static unsigned ends_with_carry(void) {
 /* The same record with one bit changed on its way. */
 static void show_damaged(const uint8_t key[KEY_LEN], uint64_t number, const uint8_t sealed[SEALED_LEN]) {
     const uint8_t *const was = sealed + KINPHLOR_TAG_LEN;
-    uint8_t damaged[SEALED_LEN], *const now = damaged + KINPHLOR_TAG_LEN;
+    uint8_t record[RECORD_LEN], damaged[SEALED_LEN], *const now = damaged + KINPHLOR_TAG_LEN;
 
+    make_record(record, number);
     printf("Record %" PRIu64 " as Kinphlor sealed it, one bit of its ciphertext changed on the way.\n\n", number);
     memcpy(damaged, sealed, SEALED_LEN);
     now[5] ^= 0x01;
@@ -325,7 +326,7 @@ static void show_damaged(const uint8_t key[KEY_LEN], uint64_t number, const uint
     show("is", now, BLOCK_LEN, "");
     mark(was, now, BLOCK_LEN, BLOCK_LEN, "damaged");
     must("a damaged record is refused with 8",
-         is(show_opening("damaged", key, number, damaged, NULL), KINPHLOR_FORGED, 0));
+         is(show_opening("damaged", key, number, damaged, record), KINPHLOR_FORGED, 0));
     puts("");
 }
 

@@ -1,28 +1,46 @@
 #!/usr/bin/env bash
-# README's examples are the text of files that the tests compile, and its pieces of the demo are what the demo prints.
+# The blocks of code in README and USAGE are the text of files that the tests compile, or what the demo prints.
 # readme.sh DEMO: the file with the demo's output.
 set -eu -o pipefail
-
-# block LANGUAGE N: the lines of README's Nth block of code in the language.
-block() {
-    awk -v fence='```' -v first="\`\`\`$1" -v n="$2" '$0 == fence { on = 0 } on; $0 == first { on = ++count == n }' README.md
-}
+demo=$1
 
 fail() {
     echo "readme: FAILED: $1" >&2
     exit 1
 }
 
-for language in c rust rattle; do
-    [ -z "$(block "$language" 2)" ] || fail "a second block in $language, which is not compared"
-done
-block c 1 | diff - host/c/example.c || fail 'the example in C is not host/c/example.c'
-block rust 1 | diff - host/rust/example.rs || fail 'the example in Rust is not host/rust/example.rs'
-[ -n "$(block rattle 1)" ] || fail 'no example in Rattle'
-[[ "$(cat crates/wall_unit/src/main.rt)" == *"$(block rattle 1)"* ]] || fail 'the example in Rattle is no part of crates/wall_unit/src/main.rt'
-for n in 1 2; do
-    [ -n "$(block text "$n")" ] || fail "no piece $n of the demo"
-    [[ "$(cat "$1")" == *"$(block text "$n")"* ]] || fail "the demo does not print README's piece $n of it"
-done
-[ -z "$(block text 3)" ] || fail 'a piece of the demo that is not compared'
-echo 'readme: its examples are the files, and its pieces of the demo are what the demo prints'
+# block PAGE LANGUAGE: the lines of the page's one block in the language.
+block() {
+    awk -v fence='```' -v first="\`\`\`$2" '$0 == fence { on = 0 } on; $0 == first { on = 1 }' "$1"
+}
+
+# has PAGE LANGUAGE...: of blocks in c, rust, rattle and text, the page has one in each of these languages alone.
+has() {
+    local page=$1 found
+    shift
+    [ -f "$page" ] || fail "no $page"
+    found=$(grep -oxE '```(c|rust|rattle|text)' "$page" | tr -d '`' | sort) || true
+    [ "$found" = "$(printf '%s\n' "$@" | sort)" ] || fail "$page has blocks in: ${found//$'\n'/ }; expected: $*"
+}
+
+# is PAGE LANGUAGE FILE: the block is the file.
+is() {
+    diff <(block "$1" "$2") "$3" || fail "the example in $2 of $1 is not $3"
+}
+
+# is_in PAGE LANGUAGE FILE: the block is some whole lines of the file.
+is_in() {
+    local lines
+    lines=$(block "$1" "$2")
+    [ -n "$lines" ] || fail "the block in $2 of $1 is empty"
+    [[ $'\n'$(cat "$3")$'\n' == *$'\n'"$lines"$'\n'* ]] || fail "the block in $2 of $1 is no part of $3"
+}
+
+has README.md c text
+is README.md c host/c/example.c
+is_in README.md text "$demo"
+has docs/USAGE.md rust rattle text
+is docs/USAGE.md rust host/rust/example.rs
+is_in docs/USAGE.md rattle crates/wall_unit/src/main.rt
+is_in docs/USAGE.md text "$demo"
+echo 'readme: the blocks of README and USAGE are the files, and what the demo prints'
