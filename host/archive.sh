@@ -43,11 +43,11 @@ before=$(sources)
 if [ "$how" != anew ] && [ -f "$archive" ] && [ -f "$stamp" ] && [ "$(cat "$stamp")" = "$(made_of "$before")" ]; then
     exit 0
 fi
-rm -f "$stamp"
-echo "proving $name and what it stands on, about two minutes from nothing; notes in $log"
+rm -f "$archive" "$stamp"
+echo "proving $name and what it stands on, a few minutes from nothing; notes in $log"
 rt staticlib "$name" 2>&1 | tee "$log" | progress || {
-    echo "kinphlor: $name is not proved. The end of $log:" >&2
-    tail -n 20 "$log" | cut -c 1-300 >&2
+    echo "kinphlor: $name is not proved. The end of $log, without its counts of modules:" >&2
+    grep -v '^library .* modules \|^logic /' "$log" | tail -n 12 | cut -c 1-300 >&2
     exit 1
 }
 # A file that was changed meanwhile may or may not be in the archive: then there is no stamp.

@@ -48,7 +48,7 @@ runs() {
 
 runs 'no archive' 1
 sed 's/two              [0-9] s/two              . s/' said | diff - <(
-    echo 'proving two and what it stands on, about two minutes from nothing; notes in build/two.log'
+    echo 'proving two and what it stands on, a few minutes from nothing; notes in build/two.log'
     echo '  one              7 s'
     echo '  two              . s'
 ) || fail 'another progress'
@@ -88,6 +88,7 @@ for how in '' again; do
     if "$script" two >said 2>&1; then fail "rt refuses $how, and archive.sh does not"; fi
     grep -q 'The end of build/two.log' said || fail "a refusal that does not name the log: $(cat said)"
     grep -qx 'rt: two NOT PROVED (exit 1, 2 s)' said || fail "a refusal that does not show the log: $(cat said)"
+    [ ! -e target/staticlib/libtwo.a ] || fail "rt refuses $how, and the archive of before is there"
 done
 rm refuse
 mv before crates/one/src/lib.rt
