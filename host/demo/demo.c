@@ -147,9 +147,9 @@ static int must(const char *what, int holds) {
     return holds;
 }
 
-/* The record with that number: 40 bytes of text. */
+/* The record with that number, of up to eight digits: 40 bytes of text. */
 static void make_record(uint8_t record[RECORD_LEN], uint64_t number) {
-    char text[RECORD_LEN + 1];
+    char text[64];
 
     snprintf(text, sizeof text, "descent %08" PRIu64 ", 14.20 m in 09.61 s, ok", number);
     memcpy(record, text, RECORD_LEN);

@@ -4,6 +4,8 @@ set -eu -o pipefail
 dir=$(mktemp -d)
 trap 'rm -rf "$dir"' EXIT
 make=${MAKE:-make}
+# What the make outside was told is none of this one's.
+unset MAKEFLAGS DESTDIR
 
 fail() {
     echo "install: FAILED: $1" >&2
