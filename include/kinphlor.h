@@ -9,7 +9,7 @@
  *   kinphlor_open_ring  the same with one to four keys, for the time in which keys change
  *
  * A sealed record is a tag of 16 bytes, then the ciphertext, which is as long as the plaintext; so it always
- * shows the plaintext's length. The record's header is not in it: whoever opens it must have the same one.
+ * shows the plaintext's length. The header, nonce and all, is not in it: opening it needs the same header.
  *
  * A header is two strings, as in section 3 of the RFC: associated data, which says what the record belongs to
  * and may be empty, and then a nonce, which is 1 byte or more, any bytes. Each record that is sealed under a
@@ -32,15 +32,15 @@
  *
  * The result is one number: the answer * 2^32 + a slot * 2^28 + a length.
  *
- *   kinphlor_number(result)  the answer: KINPHLOR_OK, or why the call was refused
+ *   kinphlor_number(result)  the answer: KINPHLOR_OK, or why the call was refused (kinphlor_text has words)
  *   kinphlor_length(result)  how many bytes were written from the front of the output: n + 16 by seal, n by
  *                            open and open_ring, 0 after a refusal
  *   kinphlor_slot(result)    from open_ring, the slot of the key that opened the record; otherwise 0
  *
- * After 8, drop the record: it is damaged or forged, or was sealed under another key or header. After 4 or 5
- * from open or open_ring, drop it too: no sealed record has that length. 6 and 7 ask for more room. Any other
- * refusal is a mistake in the call. Of several that are due, the first in this order is given: 1, 11, 10, 2,
- * 3, 5, 4, 6, 7, 8.
+ * After 8 (forged), drop the record: it is damaged or forged, or was sealed under another key or header.
+ * After 4 or 5 from open or open_ring, drop it too: no sealed record has that length. 6 and 7 ask for more
+ * room. Any other refusal is a mistake in the call. Of several that are due, the first in this order is
+ * given: 1, 11, 10, 2, 3, 5, 4, 6, 7, 8.
  *
  * What memory holds afterwards:
  *
@@ -62,9 +62,9 @@
  * caller's mistake, and the answer does not show it: sealing in place, with the plaintext at the front of the
  * output, answers success, and the record is lost, since what was written does not open.
  *
- * The functions keep nothing between calls and take no memory from the heap. Threads may call them at once,
- * where no call's output or scratch is memory that another call uses. What a call had on its own stack, round
- * keys among it, is not wiped when it returns.
+ * The functions keep nothing between calls and take no memory from the heap. Several threads may call them at
+ * the same time, where no call's output or scratch is memory that another uses. What a call had on its own
+ * stack, round keys among it, is not wiped when it returns.
  */
 #ifndef KINPHLOR_H
 #define KINPHLOR_H

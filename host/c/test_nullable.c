@@ -1,4 +1,4 @@
-/* What the _nullable functions of kinphlor.h hand on. No archive is linked: the calls here only take it down. */
+/* What the _nullable functions of kinphlor.h hand on, to calls that only take it down. No archive is linked. */
 #include "kinphlor.h"
 
 #include <stdio.h>

@@ -392,7 +392,7 @@ static uint64_t search(const uint8_t key[KEY_LEN], uint8_t last_but_one, uint8_t
 }
 
 int main(void) {
-    uint8_t ring[KEYS * KEY_LEN], strange[KEY_LEN], sealed[SEALED_LEN], other[SEALED_LEN];
+    uint8_t ring[KEYS * KEY_LEN], strange[KEY_LEN], sealed[SEALED_LEN] = {0}, other[SEALED_LEN];
     uint8_t *const key = ring + OLD * KEY_LEN;
     uint64_t plain, carry;
 

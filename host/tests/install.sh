@@ -5,7 +5,7 @@ dir=$(mktemp -d)
 trap 'rm -rf "$dir"' EXIT
 make=${MAKE:-make}
 # What the make outside was told is none of this one's.
-unset MAKEFLAGS DESTDIR
+unset MAKEFLAGS MFLAGS DESTDIR
 
 fail() {
     echo "install: FAILED: $1" >&2
