@@ -1,7 +1,7 @@
 #!/usr/bin/env bash
 # archive.sh NAME: target/staticlib/libNAME.a, proved and compiled by rt, unless it is up to date.
 # archive.sh NAME anew: the same, whatever is there.
-# The prover's notes go to build/NAME.log; the terminal has a line for each crate as it is proved, with its time.
+# The prover's notes go to build/NAME.log; the terminal has a line for each crate as it is proved.
 set -eu -o pipefail
 
 name=$1 how=${2-}
@@ -19,13 +19,13 @@ sources() {
     } | sha256sum
 }
 
-# made_of SOURCES: what the stamp must say, with the archive's own sum: one that was written over is not up to date.
+# made_of SOURCES: what the stamp must say, with the archive's own sum, so that no other archive passes.
 made_of() {
     echo "$1"
     sha256sum <"$archive"
 }
 
-# From what rt prints, a line for each crate that it proves. The last one has no line of rt's: the archive's is its.
+# From what rt prints, a line for each crate that it proves. The last crate's is that which names the archive.
 progress() {
     local line since=$SECONDS
     while IFS= read -r line; do

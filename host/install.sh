@@ -1,5 +1,5 @@
 #!/usr/bin/env bash
-# install.sh VERSION ARCHIVE: kinphlor.h, the archive and kinphlor.pc below PREFIX, with DESTDIR put before it.
+# install.sh VERSION ARCHIVE: kinphlor.h, the archive and kinphlor.pc below PREFIX; DESTDIR is put before it.
 # install.sh check: only whether PREFIX is one that can be used.
 set -eu -o pipefail
 

@@ -1,4 +1,4 @@
-/* What the _nullable functions of kinphlor.h hand on, to calls that only take it down. No archive is linked. */
+/* What the _nullable functions of kinphlor.h hand on, to calls that only take it down. No archive here. */
 #include "kinphlor.h"
 
 #include <stdio.h>

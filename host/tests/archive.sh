@@ -1,6 +1,6 @@
 #!/usr/bin/env bash
-# host/archive.sh in a small tree with an rt that proves nothing and counts its runs: it runs where a source has
-# changed, and only there; its notes are in the log, its crates on the terminal, and its refusal is shown.
+# host/archive.sh in a small tree with an rt that proves nothing and counts its runs: it runs where a source
+# has changed, and only there; its notes are in the log, its crates on the terminal, and its refusal is shown.
 set -eu -o pipefail
 script=$PWD/host/archive.sh
 dir=$(mktemp -d)

@@ -1,6 +1,6 @@
 #!/usr/bin/env bash
-# The demo in a pipe and on a terminal. It checks itself; here, that it reached its last line and fits 100 columns,
-# and that GREEN and AMBER are coloured on a terminal that has colours, and nowhere else.
+# The demo in a pipe and on a terminal. It checks itself; here, that it reached its last line and fits 100
+# columns, and that GREEN and AMBER are coloured on a terminal that has colours, and nowhere else.
 # demo.sh DEMO OUT: the program, and the file for what it prints in a pipe.
 set -eu -o pipefail
 demo=$1 out=$2

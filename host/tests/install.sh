@@ -12,7 +12,7 @@ fail() {
     exit 1
 }
 
-# DESTDIR is where files are put, blanks and all, and no part of what they say. A relative PREFIX becomes absolute.
+# DESTDIR, blanks and all, is where files are put, and no part of what they say. PREFIX becomes absolute.
 for prefix in /opt/kinphlor ../../../../../../../../../../../../opt/kinphlor; do
     "$make" --no-print-directory -s install-files DESTDIR="$dir/a stage" PREFIX="$prefix" >/dev/null
     stage="$dir/a stage/opt/kinphlor"
@@ -23,7 +23,7 @@ for prefix in /opt/kinphlor ../../../../../../../../../../../../opt/kinphlor; do
     rm -r "$dir/a stage"
 done
 
-# A prefix with a blank is refused in one line, before anything is proved or installed, and only where it is used.
+# A prefix with a blank is refused in one line, before anything is proved, and only where it is used.
 refusal="kinphlor: PREFIX has a blank in it ($dir/my lib): pkg-config's flags would be split there"
 for target in install install-files; do
     if "$make" --no-print-directory -s "$target" PREFIX="$dir/my lib" >"$dir/said" 2>&1; then

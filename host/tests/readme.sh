@@ -1,5 +1,5 @@
 #!/usr/bin/env bash
-# The blocks of code in README and USAGE are the text of files that the tests compile, or what the demo prints.
+# The blocks of code in README and USAGE are the text of files that tests compile, or what the demo prints.
 # readme.sh DEMO: the file with the demo's output.
 set -eu -o pipefail
 demo=$1
@@ -14,7 +14,7 @@ block() {
     awk -v fence='```' -v first="\`\`\`$2" '$0 == fence { on = 0 } on; $0 == first { on = 1 }' "$1"
 }
 
-# has PAGE LANGUAGE...: of blocks in c, rust, rattle and text, the page has one in each of these languages alone.
+# has PAGE LANGUAGE...: of c, rust, rattle and text, the page has one block in each of these, and no other.
 has() {
     local page=$1 found
     shift
