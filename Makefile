@@ -1,7 +1,8 @@
 # make test: all tests, ending in rt ci's 'N passed, 0 failed'.
 # make lib: build/libkinphlor.a and build/kinphlor.h.
 # make demo: lane records sealed, laid out byte by byte and opened.
-# make bench: times beside OpenSSL's and libgcrypt's, stack and instructions; writes docs/BENCHMARKS.md.
+# make bench: times beside OpenSSL's and libgcrypt's, stack, instructions; writes docs/BENCHMARKS.md and its picture.
+# make docs: docs/WRONG-PROGRAMS.md, from the first lines of the edits.
 # make install: libkinphlor.a, kinphlor.h and kinphlor.pc below PREFIX; DESTDIR is put before it.
 # Each first installs what it needs and the machine lacks, or says in one line what that is: host/setup.sh.
 SHELL := /bin/bash
