@@ -43,10 +43,12 @@ pub fn grouped(number: u64) -> String {
     text
 }
 
-/// A target's line: what it is for, the most that the ratio may be, and the largest that there is, to so many digits.
+/// A target's line: what it is for, the most that the ratio may be, and the largest that there is, to so many
+/// digits. The figure that is shown is the one that is judged.
 pub fn target(what: &str, most: f64, largest: f64, digits: usize) -> String {
-    let met = if largest <= most { "met" } else { "not met" };
-    format!("- {what}: at most {most:.2}; the largest is {largest:.digits$}, so it is {met}.")
+    let shown = format!("{largest:.digits$}");
+    let met = if shown.parse().is_ok_and(|shown: f64| shown <= most) { "met" } else { "not met" };
+    format!("- {what}: at most {most:.2}; the largest is {shown}, so it is {met}.")
 }
 
 /// Three digits or more.
