@@ -1,6 +1,6 @@
 //! Work in blocks from lengths alone, by rule 15.2.
 
-/// L, made once, and the CMAC of the zero block.
+/// L, and the CMAC of the zero block.
 pub const KEY: u64 = 2;
 
 /// The blocks of a string; an empty one has one.

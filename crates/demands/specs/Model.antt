@@ -13,7 +13,7 @@ use Rattle.demands.specs.Figures.{over, chained, sixteenths, tagBlocks}
 use Rattle.demands.specs.Run.{Begin, sealer, opener, Call, add, turn, write, close, feed, finish, Entry}
 use Rattle.demands.specs.Table.{answered}
 
--- what the model keeps: a stage, A, the bytes added or fed, and W, those written
+-- what the model keeps: a stage, A, which is all that was added or fed, and W, all that was written
 pub record ModelState : Type 0 where
   pub stage : ℕ
   pub A : List ℕ
@@ -55,8 +55,8 @@ module _ (key bytes lens : List ℕ) where
 
   -- which begin, and the output shared by feed and finish as it was at first
   module _ (begin : Begin) (shared : List ℕ) where
-    -- the shared output: the opener's starts with A xor the key stream of T in stage 3;
-    -- after finish, with the plaintext for 0, and with zeros as long as A for 8
+    -- the shared output, rule 10.8: an opener's has A deciphered at its front in stage 3,
+    -- and after finish the plaintext, or for 8 zeros of the same length
     abbrev shownBy : Begin → ModelState → List ℕ
     shownBy sealer b = shared
     shownBy (opener T) b =
@@ -120,7 +120,7 @@ module _ (key bytes lens : List ℕ) where
     outputBefore b finish = shown b
 
     -- and after success or 8: turn gives the tag of sealing A,
-    -- and the writes' bytes, joined, are W xor the key stream of that tag
+    -- and all writes together give W under the key stream of that tag, rule 10.7
     abbrev pub outputAfter : ModelState → Call → List ℕ
     outputAfter b (add piece) = []
     outputAfter b (turn output) = over output 0 (sealTag (b .A))

@@ -66,7 +66,7 @@ module _ (keyLength slots : ℕ) (ring bytes lens y : List ℕ) where
     -- where nothing seals to y under any key, opening refuses
     pub refuses : ((i : ℕ) (P : List ℕ) → SealsUnder i P → ⊥) → result .call .outcome .number ≡ 0 → ⊥
     -- and if y has 16 to 1,048,592 bytes, it refuses with 8,
-    -- and every output byte that a plaintext would have taken is zero
+    -- and a plaintext's place in the output is zero
     pub wipes : ((i : ℕ) (P : List ℕ) → SealsUnder i P → ⊥) → 16 ≤ length y → length y ≤ 1048592
         → (result .call .outcome ≡ answered 8 0 (slots * wholeWork lens (length y - 16)))
         × (result .call .output ≡ over output 0 (replicate (length y - 16) 0))

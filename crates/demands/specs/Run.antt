@@ -93,7 +93,7 @@ pub record Run : Type 0 where
   pub state : Stream
   pub shared : List ℕ
 
--- each call gets the state that the last one returned,
+-- each call takes the state that came out of the one before,
 -- and feed and finish the output as the last one left it
 abbrev pub run : Stream → List ℕ → List Call → Run
 run s shared [] = record { entries = []; state = s; shared = shared }

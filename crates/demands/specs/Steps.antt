@@ -87,7 +87,7 @@ withPiece s kept piece =
       tail = rest ++ replicate (31 - length rest) 0;
     }
 
--- turn changes stage and V, and no other field
+-- turn sets stage and V alone
 abbrev withTag : Stream → Stream
 withTag s =
     record {

@@ -21,8 +21,8 @@ use Rattle.demands.specs.State.{secondHalf, blockBegun, blankState, stat
 use Rattle.demands.specs.Table.{answered}
 use Rattle.demands.specs.Whole.{ThirdWhole}
 
--- the same bytes in one piece: one add of A in stage 1;
--- one add of A, turn and one write of W in stage 2; one feed of A in stage 3
+-- the same bytes in one piece, rule 10.9: in stage 1 a single add, in stage 2 a single add,
+-- turn and a single write, in stage 3 a single feed
 abbrev pub onePiece : ModelState → List Call
 onePiece b =
     cond (eqb (b .stage) 1) (add (b .A) ∷ [])
@@ -90,7 +90,7 @@ module _ (key bytes lens : List ℕ) where
         pub output : ran .shared ≡ shown key bytes lens begin shared (expected .model)
         -- the state, field by field
         pub state : ran .state ≡ stateBy begin (expected .model)
-        -- it is that of the same bytes given in one piece, after the begin from the whole list; all zero in stage 0
+        -- it is the one after these bytes in one piece, from the begin with the whole list; all zero in stage 0
         pub onePieceState : ran .state
             ≡ cond (eqb (expected .model .stage) 0) blankState (run (begun key bytes lens undivided begin .state) shared (onePiece (expected .model)) .state)
 
@@ -104,12 +104,11 @@ module _ (key bytes lens : List ℕ) where
       sealerGave = gave calls (ran sealer shared calls start .entries)
 
       pub record AsSealed : Type 0 where
-        -- turn gave the tag of sealing A, and the accepted writes' bytes, joined, are W xor the key stream of that tag
+        -- turn gave the tag of sealing A, and all writes together W under the key stream of that tag, rule 10.7
         pub joined : sealerGave
             ≡ cond (eqb (sealerModel .stage) 1) []
             (sealTag key bytes lens (sealerModel .A) ++ streamed key (sealTag key bytes lens (sealerModel .A)) (sealerModel .W))
-        -- what turn and the writes gave is the first bytes of sealing all that was added,
-        -- if the writes brought its first bytes again
+        -- and that is the beginning of A's sealed string, provided that the writes repeated A's beginning, rule 1.6
         pub firstBytes : take (length (sealerModel .W)) (sealerModel .A) ≡ sealerModel .W
             → sealerGave ≡ take (cond (eqb (sealerModel .stage) 1) 0 (16 + length (sealerModel .W))) (sealed key (strings bytes lens) (sealerModel .A))
 

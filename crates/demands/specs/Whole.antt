@@ -24,12 +24,12 @@ pub record ThirdWhole (key bytes lens y output scratch : List ℕ) : Type 0 wher
   -- opening accepts y with P exactly when P is within the limit and sealing P gives y
   pub accepts : (P : List ℕ) → Accepts (openCall key bytes lens y output scratch) output P → SealsTo key bytes lens y P
   pub accepted : (P : List ℕ) → SealsTo key bytes lens y P → Gives (openCall key bytes lens y output scratch) (wholeWork lens (length P)) output P
-  -- at most one plaintext seals to y
+  -- no two plaintexts seal to y
   pub unique : (P Q : List ℕ) → SealsTo key bytes lens y P → SealsTo key bytes lens y Q → P ≡ Q
-  -- where none does, opening refuses
+  -- a y that nothing seals to is refused
   pub refuses : ((P : List ℕ) → SealsTo key bytes lens y P → ⊥) → openCall key bytes lens y output scratch .outcome .number ≡ 0 → ⊥
   -- and if y has 16 to 1,048,592 bytes, it refuses with 8,
-  -- and every output byte that a plaintext would have taken is zero
+  -- and a plaintext's place in the output is zero
   pub wipes : ((P : List ℕ) → SealsTo key bytes lens y P → ⊥) → 16 ≤ length y → length y ≤ 1048592
       → (openCall key bytes lens y output scratch .outcome ≡ answered 8 0 (wholeWork lens (length y - 16)))
       × (openCall key bytes lens y output scratch .output ≡ over output 0 (replicate (length y - 16) 0))

@@ -19,7 +19,7 @@ use Rattle.whole.specs.Work.{plannedWork}
 abbrev pub aeadLens : ℕ → ℕ → List ℕ
 aeadLens ad nonce = ad ∷ nonce ∷ []
 
--- the number times 2 to the power 32, plus the length; the work is left out
+-- the number from bit 32 on and the length below, rule 11.2; the work is left out
 abbrev pub packed : Outcome → ℕ
 packed o = o .number * 4294967296 + o .count
 

@@ -1,4 +1,4 @@
-// Piecewise sealing and opening: a stream state goes in by value and comes back with the answer.
+// Piecewise sealing and opening: a call takes a stream state by value and returns the next with its answer.
 mod admitted;
 mod begin;
 mod judge;
@@ -38,7 +38,7 @@ pub struct Stream {
     // V, the tag: zero in stage 1.
     pub v: Block,
     // The block of the key stream that is begun and not used up,
-    // in stage 2 while written and in stage 3 while total is no multiple of 16; else zero.
+    // rule 15.8: where 16 does not divide written in stage 2, or total in stage 3; else zero.
     pub kept: Block,
     // How many bytes were added or fed.
     pub total: usize,

@@ -14,7 +14,7 @@ use Rattle.s2v.specs.S2v.{s2v, s2vWork}
 use Rattle.keystream.specs.KeyStream.{keyStreamWork, xorStream}
 use Rattle.whole.specs.declared.Verdict.{Verdict}
 
--- 2.6: the first half of the key serves S2V, the second half the counter
+-- 2.6: S2V uses the key's first half, counter mode its second
 abbrev pub macKey : List ℕ → List ℕ
 macKey key = take (length key / 2) key
 
