@@ -35,7 +35,9 @@ test: setup-test
 archive: setup-lib
 	host/archive.sh kinphlor
 
-lib: archive
+lib: setup-lib
+	rm -f build/libkinphlor.a build/kinphlor.h
+	host/archive.sh kinphlor
 	cp target/staticlib/libkinphlor.a include/kinphlor.h build/
 	echo 'build has libkinphlor.a and kinphlor.h'
 

@@ -38,14 +38,17 @@ progress() {
     done
 }
 
-mkdir -p build
+# One run at a time: another's archive under this one's stamp would be up to date for ever.
+mkdir -p build target
+exec 9>target/archive.lock
+flock 9
 before=$(sources)
 if [ "$how" != anew ] && [ -f "$archive" ] && [ -f "$stamp" ] && [ "$(cat "$stamp")" = "$(made_of "$before")" ]; then
     exit 0
 fi
 rm -f "$archive" "$stamp"
 echo "proving $name and what it stands on, a few minutes from nothing; notes in $log"
-rt staticlib "$name" 2>&1 | tee "$log" | progress || {
+rt staticlib "$name" 2>&1 9>&- | tee "$log" | progress || {
     echo "kinphlor: $name is not proved. The end of $log, without its counts of modules:" >&2
     grep -v '^library .* modules \|^logic /' "$log" | tail -n 12 | cut -c 1-300 >&2
     exit 1

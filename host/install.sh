@@ -3,16 +3,27 @@
 # install.sh check: only whether PREFIX is one that can be used.
 set -eu -o pipefail
 
-# kinphlor.pc holds it, so it is made absolute.
-prefix=$(realpath -ms -- "${PREFIX:-/}")
-if [[ $prefix == *[[:space:]]* ]]; then
-    echo "kinphlor: PREFIX has a blank in it ($prefix): pkg-config's flags would be split there" >&2
+refuse() {
+    echo "kinphlor: $1" >&2
     exit 1
-fi
-[ "$1" != check ] || exit 0
+}
 
+[ -n "${PREFIX-}" ] || refuse 'PREFIX is empty; for the root directory say PREFIX=/'
+# kinphlor.pc holds it, so it is made absolute.
+prefix=$(realpath -ms -- "$PREFIX")
+case $prefix in
+    *[[:space:]]*) refuse "PREFIX has a blank in it ($prefix): pkg-config's flags would be split there" ;;
+    *[\#\"\'\\]*) refuse "PREFIX has a #, a quote or a backslash in it ($prefix), which pkg-config does not take" ;;
+esac
 prefix=${prefix%/}
 to=${DESTDIR-}$prefix
+
+# What is there already, of it and the folders above it, must be a folder that can be written.
+there=$to/
+while [ -n "$there" ] && [ ! -e "$there" ]; do there=$(dirname -- "$there"); done
+[ -d "$there" ] && [ -w "$there" ] || refuse "cannot write to $there; another place is PREFIX=\$HOME/kinphlor"
+[ "$1" != check ] || exit 0
+
 install -d "$to/include" "$to/lib/pkgconfig"
 install -m 644 include/kinphlor.h "$to/include/kinphlor.h"
 install -m 644 "$2" "$to/lib/libkinphlor.a"

@@ -69,7 +69,7 @@ rust='rustc>=1.85 libcrypto.so.3 libgcrypt.so.20'
 case ${1-} in
     lib) needs='' ;;
     demo) needs='cc' ;;
-    test) needs="make cc g++ script $rust" ;;
+    test) needs="make cc g++ script pkg-config $rust" ;;
     bench) needs="cc $rust valgrind" ;;
     where)
         where "$2"

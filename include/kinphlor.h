@@ -11,16 +11,18 @@
  * A sealed record is a tag of 16 bytes, then the ciphertext, which is as long as the plaintext; so it always
  * shows the plaintext's length. The header, nonce and all, is not in it: opening it needs the same header.
  *
- * A header is two strings, as in section 3 of the RFC: associated data, which says what the record belongs to
- * and may be empty, and then a nonce, which is 1 byte or more, any bytes. Each record that is sealed under a
- * key with the same associated data has a nonce of its own. A counter such as the record's number serves: a
- * nonce need be neither random nor secret. Where one is used twice with the same key and associated data, a
- * listener learns whether the two plaintexts are equal, since then the sealed records are equal, and nothing
- * else. RFC 5297 calls this resistance to nonce misuse.
+ * A header is two strings, as in section 3 of the RFC: associated data, which says what the record belongs
+ * to and may be empty, and then a nonce, which is 1 byte or more, any bytes. Empty associated data is
+ * still a string: another library must be given an empty string and then the nonce. Every record that is
+ * sealed under one key with the same associated data must have a nonce of its own. A counter such as the
+ * record's number serves: a nonce need be neither random nor secret. Where one is used twice with the same
+ * key and associated data, a listener learns whether the two plaintexts are equal, since then the sealed
+ * records are equal, and nothing else. RFC 5297 calls this resistance to nonce misuse.
  *
  * The arguments. n is the plaintext's length, 0 to KINPHLOR_LIMIT. Where there must be room, more is fine.
  *
- *   key, key_len        seal, open: 32, 48 or 64 bytes: the first half for the tag, the second for the rest
+ *   key, key_len        seal, open: 32, 48 or 64 bytes, for AES-128, -192 or -256. The first half makes
+ *                       the tag, the second encrypts.
  *   key_len,            open_ring: the length of each key, 32, 48 or 64; and the ring, one to four keys of
  *     ring, ring_len    that length, one directly after the other. A key's place is its slot, 0 to 3.
  *   header, header_len  the associated data, directly followed by the nonce
@@ -40,7 +42,7 @@
  * After 8 (forged), drop the record: it is damaged or forged, or was sealed under another key or header.
  * After 4 or 5 from open or open_ring, drop it too: no sealed record has that length. 6 and 7 ask for more
  * room. Any other refusal is a mistake in the call. Of several that are due, the first in this order is
- * given: 1, 11, 10, 2, 3, 5, 4, 6, 7, 8.
+ * given: 1, 11, 10, 3, 5, 4, 6, 7, 8.
  *
  * What memory holds afterwards:
  *
@@ -130,8 +132,8 @@ uint64_t kinphlor_open_ring(size_t key_len, const uint8_t *ring, size_t ring_len
  * 0, or n is over 1,048,576.
  *
  * kinphlor_open_ring takes it once for each key that it tries: slot + 1 times for a record that opens, as
- * often as the ring has keys for one that is forged, and so at most four times. A forged record takes as much
- * as a genuine one; any other refusal comes before the cipher's first block.
+ * often as the ring has keys for one that is forged, and so at most four times. With one key, a forged
+ * record takes as much as a genuine one. Any other refusal comes before the cipher's first block.
  */
 uint64_t kinphlor_planned_work(uint32_t ad_len, uint32_t nonce_len, size_t n);
 
@@ -146,9 +148,9 @@ uint64_t kinphlor_planned_work(uint32_t ad_len, uint32_t nonce_len, size_t n);
  *   least       the least length of each: 0, or 1 where no string may be empty
  *   lens        126 places, not null. The list's lengths come first; those past count become 0.
  *
- * The result is one number: the answer times 2 to the power 32, plus the list's blocks (kinphlor_number,
- * kinphlor_blocks). With other figures the answer is 12, and the blocks and all places are 0; there is no
- * other refusal. A record behind such a header takes the sum above, with these blocks for its strings.
+ * The result is one number: the answer * 2^32 + the list's blocks (kinphlor_number, kinphlor_blocks). If
+ * an argument is out of bounds the answer is 12, and the blocks and all places are 0; there is no other
+ * refusal. A record behind such a header takes the sum above, with these blocks for its strings.
  *
  * The header of kinphlor_seal has two strings, of which the associated data may be empty and the nonce may
  * not: ask with count 2, least 0 and a header_len of 1 or more. If the second length is then 0, exchange the

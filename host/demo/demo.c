@@ -2,7 +2,7 @@
  * Lane records sealed and opened through kinphlor.h, beside those of a wall unit whose carry stops too soon.
  *
  * The first part is what a program on a tablet or a wall unit does with a record, and may be copied. The
- * second part shows it on a terminal, and checks that all comes out as it must: only then it exits with 0.
+ * second part shows it on a terminal, and checks that all comes out as it must: only then does it exit with 0.
  */
 #include <kinphlor.h>
 
@@ -107,10 +107,8 @@ static int is(uint64_t result, uint32_t number, uint32_t length) {
     return kinphlor_number(result) == number && kinphlor_length(result) == length;
 }
 
-/* Green only for a whole record that opened clean. */
-static const char *colour(uint64_t result) {
-    return is(result, KINPHLOR_OK, RECORD_LEN) ? "GREEN" : "AMBER";
-}
+/* Green only for a whole record that opened clean; else amber. */
+static int is_green(uint64_t result) { return is(result, KINPHLOR_OK, RECORD_LEN); }
 
 /* Stands for reading a key from where the gym keeps it. A real key is never in a program's text. */
 static void load_key(uint8_t key[KEY_LEN], unsigned which) {
@@ -178,10 +176,13 @@ static int in_colour(void) {
 
 /* The colour that a result gives the lane, in that colour where it can be. */
 static void show_lane(uint64_t result) {
-    const char *const code = kinphlor_number(result) == KINPHLOR_OK ? "\033[32m" : "\033[33m";
-    const int coloured = in_colour();
+    const char *const word = is_green(result) ? "GREEN" : "AMBER";
 
-    printf("%s%s%s   ", coloured ? code : "", colour(result), coloured ? "\033[0m" : "");
+    if (in_colour()) {
+        printf("\033[%dm%s\033[0m   ", is_green(result) ? 32 : 33, word);
+    } else {
+        printf("%s   ", word);
+    }
 }
 
 /* A row of up to 16 bytes, with a label and a note. */
@@ -240,7 +241,7 @@ static void show_ciphertexts(const uint8_t right[RECORD_LEN], const uint8_t unit
         } else {
             show(label, right + at, len, "from Kinphlor");
             show("", units + at, len, "from the wall unit");
-            mark(right + at, units + at, len, len, "another block went through the cipher");
+            mark(right + at, units + at, len, len, "a different counter block was enciphered");
         }
     }
 }
@@ -266,7 +267,7 @@ static uint64_t show_opening(const char *label, const uint8_t key[KEY_LEN], uint
     return result;
 }
 
-/* A record as Kinphlor and the wall unit seal it: another where the unit miscounts. Gives Kinphlor's. */
+/* Shows a record as both seal it; they differ where the unit miscounts. Leaves Kinphlor's in sealed. */
 static void show_both(const uint8_t key[KEY_LEN], uint64_t number, const char *why, int miscounted,
                       uint8_t sealed[SEALED_LEN]) {
     const size_t last = SEALED_LEN - RECORD_LEN % BLOCK_LEN;
@@ -365,7 +366,8 @@ static void show_headers(void) {
     } rows[] = {{2, 16, 2}, {2, 32, 3}, {4, 64, 7}, {4, 256, 19}, {126, 142, 127}, {126, 1024, 182}};
     size_t i;
 
-    puts("Another gym has not picked its header strings. Whatever it picks, none empty, they take at most:\n");
+    puts("A gym that has yet to choose its header strings can plan for the worst. With none empty, they take");
+    puts("at most:\n");
     puts("  strings  bytes together  blocks");
     for (i = 0; i < sizeof rows / sizeof rows[0]; i++) {
         const uint32_t blocks = worst_header(rows[i].strings, rows[i].bytes);
@@ -402,7 +404,7 @@ int main(void) {
     printf("After each descent, lane %u of wall %u in gym %lu seals a record of %u bytes with AES-SIV (RFC 5297).\n",
            (unsigned)LANE.number, (unsigned)LANE.wall, (unsigned long)LANE.gym, (unsigned)RECORD_LEN);
     puts("A tablet opens it: the lane is GREEN if it opens, AMBER if not. Here Kinphlor seals the record, and");
-    puts("beside it a wall unit whose counter carries through two bytes. In the standard it is sixteen.\n");
+    puts("beside it a wall unit whose carry stops after two bytes. The standard's runs through all sixteen.\n");
     plain = search(key, 0x3a, 0x10);
     carry = search(key, 0xff, 0xfe);
     if (must("a record has a tag that ends in 3a 10", plain != 0) && must("and one in ff fe", carry != 0)) {
@@ -417,7 +419,7 @@ int main(void) {
         puts("The gym changes its key. While records under the old one still arrive, the tablet has a ring of");
         puts("both: the new key in slot 0, the old key in slot 1. Each key that it tries takes 10 blocks.\n");
         show_changing(ring, ring + NEW * KEY_LEN, NEW, carry + 2, "sealed after the change");
-        show_changing(ring, ring + OLD * KEY_LEN, OLD, carry + 1, "sealed before it, and late");
+        show_changing(ring, ring + OLD * KEY_LEN, OLD, carry + 1, "sealed before it, comes late");
         show_changing(ring, strange, KEYS, carry + 3, "sealed under neither key");
         puts("");
         show_headers();
@@ -425,6 +427,6 @@ int main(void) {
     wipe(ring, sizeof ring);
     wipe(strange, sizeof strange);
     if (failures > 0) return 1;
-    puts("demo: four records opened as sealed; one miscounted, one damaged and one strange were refused");
+    puts("demo: four records opened as sealed; refused: one miscounted, one damaged, one under another key");
     return 0;
 }

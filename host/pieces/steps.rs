@@ -1,4 +1,4 @@
-//! What each call makes of any state that it is given, by rules 9.4 to 9.12 and the table of answers.
+//! What each call makes of any state that it is given, by rules 9.4 to 9.13 and the table of answers.
 //! What 9 does not judge is used as it is: libcrypto's cipher takes a state's round keys as they stand, and a kept
 //! block is not made again. A call's work is the count of what went through that cipher.
 

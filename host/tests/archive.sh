@@ -76,10 +76,29 @@ runs 'a file is gone' 1
 rm target/staticlib/libtwo.a
 runs 'the archive is gone' 1
 runs 'nothing changed, and the archive is wanted anew' 1 anew
+cp crates/one/src/lib.rt before
 touch meanwhile
 runs 'the archive is wanted anew, and a file changes meanwhile' 1 anew
 rm meanwhile
-runs 'a file changed meanwhile' 1
+mv before crates/one/src/lib.rt
+runs 'a file changed meanwhile, and is as it was' 1
+echo linked >elsewhere
+ln -s ../../../elsewhere crates/one/specs/Linked.antt
+runs 'a link is added' 1
+echo changed >>elsewhere
+runs 'what a link leads to is changed' 1
+
+# While another run holds the lock, this one waits.
+exec 8>target/archive.lock
+flock 8
+"$script" two anew >said 2>&1 8>&- &
+sleep 0.3
+: >runs
+sleep 0.3
+[ ! -s runs ] || fail 'two runs at once'
+exec 8>&-
+wait $! || fail "a run that had to wait: $(cat said)"
+[ "$(wc -l <runs)" = 1 ] || fail 'a run that had to wait does nothing'
 
 cp crates/one/src/lib.rt before
 echo wrong >>crates/one/src/lib.rt

@@ -1,4 +1,4 @@
-//! The documents held to the tree: rules, names, widths and links. Run by make host-docs, from the root.
+//! The documents held to the tree: rules, names, fields, widths and links. Run by make host-docs, from the root.
 
 use std::collections::{HashMap, HashSet};
 use std::fs;
@@ -34,7 +34,8 @@ fn main() {
     let names = check_names(&tree, &pages, &mut failures);
     check_widths(&pages, &mut failures);
     let links = check_links(&tree, &pages, &mut failures);
-    check_sources(&pages, &mut failures);
+    check_sources(&tree, &pages, &mut failures);
+    check_fields(&tree, &pages, &mut failures);
     for failure in &failures {
         eprintln!("{failure}");
     }
@@ -367,19 +368,68 @@ fn joined(folder: &str, link: &str) -> String {
     parts.join("/")
 }
 
-/// Pages cite rules, and not the owner's documents, which are not in the repository.
-fn check_sources(pages: &[Page], failures: &mut Vec<String>) {
-    for page in pages {
-        for pair in words(&page.file.text).windows(2) {
+/// Pages and comments cite rules, and not the owner's documents, which are not in the repository. A comment may name
+/// a term of theirs: "the hold" of the owner's document 01.
+fn check_sources(tree: &Tree, pages: &[Page], failures: &mut Vec<String>) {
+    for file in tree.code().chain(pages.iter().map(|page| page.file)) {
+        let words = words(&file.text);
+        for (i, pair) in words.windows(2).enumerate() {
             let (word, next) = (plain(pair[0].1).to_lowercase(), plain(pair[1].1));
+            let named = !is_page(&file.path) && i > 0 && words[i - 1].1 == "owner's";
             let digits = next.bytes().take_while(u8::is_ascii_digit).count();
             let cites = match &*word {
-                "document" | "documents" => digits > 1 && next.starts_with('0'),
+                "document" | "documents" => !named && digits > 1 && next.starts_with('0'),
                 "slip" | "slips" => digits > 0,
                 _ => false,
             };
             if cites {
-                failures.push(page.file.at(pair[0].0, format!("{word} {} is not in the repository", &next[..digits])));
+                failures.push(file.at(pair[0].0, format!("{word} {} is not in the repository", &next[..digits])));
+            }
+        }
+    }
+}
+
+/// The fields of each record of the definitions.
+fn records(tree: &Tree) -> HashMap<&str, HashSet<&str>> {
+    let mut records: HashMap<&str, HashSet<&str>> = HashMap::new();
+    for file in tree.files.iter().filter(|file| file.path.contains("/specs/")) {
+        let mut inside = None;
+        for line in file.text.lines() {
+            let mut words = line.split_whitespace().filter(|word| *word != "pub");
+            let (first, second) = (words.next().unwrap_or_default(), words.next().unwrap_or_default());
+            if first == "record" {
+                records.entry(second).or_default();
+                inside = Some((second, line.len() - line.trim_start().len()));
+            } else if let Some((name, indent)) = inside.filter(|_| !first.is_empty()) {
+                if line.len() - line.trim_start().len() <= indent {
+                    inside = None;
+                } else if second == ":" {
+                    records.entry(name).or_default().insert(first);
+                }
+            }
+        }
+    }
+    records
+}
+
+/// Where a page says `a`, `b` of `R`, and R is a record, these are its fields.
+fn check_fields(tree: &Tree, pages: &[Page], failures: &mut Vec<String>) {
+    let records = records(tree);
+    for page in pages.iter().filter(|page| page.file.path != CHANGES) {
+        let parts: Vec<&str> = page.prose.split('`').collect();
+        let between = |i: usize| parts[i].split_whitespace().collect::<Vec<_>>().join(" ");
+        for i in (3..parts.len()).step_by(2).filter(|&i| between(i - 1) == "of") {
+            let Some(fields) = records.get(parts[i]) else { continue };
+            let mut at = i - 2;
+            loop {
+                if !fields.contains(parts[at]) {
+                    let line = 1 + parts[..at].iter().map(|part| part.matches('\n').count()).sum::<usize>();
+                    failures.push(page.file.at(line, format!("`{}` is no field of `{}`", parts[at], parts[i])));
+                }
+                if at < 3 || ![",", "and"].contains(&&*between(at - 1)) {
+                    break;
+                }
+                at -= 2;
             }
         }
     }

@@ -23,34 +23,43 @@ for prefix in /opt/kinphlor ../../../../../../../../../../../../opt/kinphlor; do
     rm -r "$dir/a stage"
 done
 
-# A prefix with a blank is refused in one line, before anything is proved, and only where it is used.
-refusal="kinphlor: PREFIX has a blank in it ($dir/my lib): pkg-config's flags would be split there"
-for target in install install-files; do
-    if "$make" --no-print-directory -s "$target" PREFIX="$dir/my lib" >"$dir/said" 2>&1; then
-        fail "make $target takes a PREFIX with a blank"
-    fi
-    [ "$(grep -v '^make' "$dir/said")" = "$refusal" ] || fail "make $target says: $(cat "$dir/said")"
-    for path in "$dir/my lib" "$dir/my" lib; do
-        [ ! -e "$path" ] || fail "make $target with a PREFIX that it refuses leaves $path"
+# refuses PREFIX WORDS: make install takes no such PREFIX, says so in one line before anything is proved, and
+# leaves nothing.
+refuses() {
+    local target
+    for target in install install-files; do
+        if "$make" --no-print-directory -s "$target" PREFIX="$1" >"$dir/said" 2>&1; then
+            fail "make $target takes PREFIX=$1"
+        fi
+        [ "$(grep -v '^make' "$dir/said")" = "kinphlor: $2" ] || fail "make $target says: $(cat "$dir/said")"
+        [ "$(ls "$dir")" = "$(printf '%s\n' file said)" ] || fail "make $target PREFIX=$1 leaves: $(ls "$dir")"
     done
+}
+touch "$dir/file"
+refuses '' 'PREFIX is empty; for the root directory say PREFIX=/'
+refuses "$dir/my lib" "PREFIX has a blank in it ($dir/my lib): pkg-config's flags would be split there"
+refuses "$dir/file/lib" "cannot write to $dir/file; another place is PREFIX=\$HOME/kinphlor"
+for odd in \# \' \" \\; do
+    refuses "$dir/a${odd}b" "PREFIX has a #, a quote or a backslash in it ($dir/a${odd}b), which pkg-config does not take"
 done
 PREFIX="$dir/my lib" "$make" --no-print-directory -n lib >/dev/null || fail 'make lib minds a PREFIX'
 
-"$make" --no-print-directory -s install-files PREFIX="$dir/prefix" >/dev/null
-
-# example FLAGS...: the example in C is built with them, without a warning, and runs.
-example() {
-    ${CC:-cc} -std=c99 -Wall -Wextra -Wpedantic -Werror -o "$dir/example_c" host/c/example.c "$@"
-    [ "$("$dir/example_c")" = success ] || fail "the example in C, built with $*"
-}
-example "-I$dir/prefix/include" "-L$dir/prefix/lib" -lkinphlor
-by='-I and -L'
-if command -v pkg-config >/dev/null; then
-    # shellcheck disable=SC2046
-    example $(PKG_CONFIG_PATH="$dir/prefix/lib/pkgconfig" pkg-config --cflags --libs kinphlor)
-    by="$by, and by pkg-config"
-fi
-
-rustc -D warnings -L native="$dir/prefix/lib" -o "$dir/example_rust" host/rust/example.rs
+# The pages' own lines: make install, both ways to compile C, and rustc's, with a home of their own.
+install=$(sed -n 's/^    make install \(PREFIX=[^ ]*\) .*/\1/p' README.md)
+[ -n "$install" ] || fail 'README installs nothing'
+(HOME=$dir && eval "\"$make\" --no-print-directory -s install-files $install") >/dev/null
+cp host/c/example.c "$dir/program.c"
+ways=0
+while IFS= read -r line; do
+    ways=$((ways + 1))
+    rm -f "$dir/a.out"
+    (cd "$dir" && HOME=$dir && eval "${line/#cc/${CC:-cc} -std=c99 -Wall -Wextra -Wpedantic -Werror}") || fail "README's line: $line"
+    [ "$("$dir/a.out")" = success ] || fail "the example in C, by $line"
+done < <(sed -n 's/^    \(cc program\.c .*\)/\1/p' README.md)
+[ "$ways" = 2 ] || fail "README has $ways ways to compile"
+line=$(sed -n 's/^    \(rustc .*\) program\.rs$/\1/p' docs/USAGE.md)
+[ -n "$line" ] || fail 'USAGE has no line for rustc'
+# rustc may be one that looks for itself in the home.
+eval "${line//\$HOME/$dir} -D warnings -o \"$dir/example_rust\" host/rust/example.rs"
 "$dir/example_rust" | grep -q '^sealed: \[' || fail "the example in Rust"
-echo "install: the examples in C and Rust run over what make install put down (C by $by)"
+echo 'install: the examples in C and Rust run over what make install put down, by the lines of README and USAGE'

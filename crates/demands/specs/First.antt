@@ -31,7 +31,7 @@ use Rattle.demands.specs.Table.{answered, Row, row, order, keeps, FirstD
 
 -- ---- answers
 
--- every case of an answer has its number, rule 3.1; a refusal has length 0
+-- every case of an answer has its number, rules 2.4 and 3.1; a refusal has length 0
 pub record Numbers (w : ℕ) : Type 0 where
   pub ok : (n : ℕ) → outcomeOf (Ok n) w ≡ answered 0 n w
   pub keyLength : outcomeOf (Refused KeyLength) w ≡ answered 1 0 w

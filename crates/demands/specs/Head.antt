@@ -1,4 +1,4 @@
--- Rules 13.2, 13.3 and 13.5: a header list divided into a head and the rest gives what the undivided list gives.
+-- Rules 13.2, 13.3, 13.5 and 15.5: a header list divided into a head and the rest gives what the undivided one gives.
 -- Assumes nothing.
 use mathlib.Core.Path.{_≡_}
 use mathlib.Core.List.{List, _++_}

@@ -21,8 +21,7 @@ pub record Admits (key bytes lens : List ℕ) : Type 0 where
 abbrev pub Gives : CallResult → ℕ → List ℕ → List ℕ → Type 0
 Gives result work output s = (result .outcome ≡ answered 0 (length s) work) × (result .output ≡ over output 0 s)
 
--- The second demand: sealing gives the bytes of RFC 5297 over FIPS 197's AES,
--- and opening returns the plaintext that was sealed.
+-- The second demand, rule 1.2: sealing is RFC 5297 over the AES of FIPS 197, and opening undoes it.
 pub record Second : Type 0 where
   pub seals : (key bytes lens p output scratch : List ℕ) → Admits key bytes lens → length p ≤ 1048576 → length p + 16 ≤ length output
       → max (length p) 16 ≤ length scratch → Gives (sealCall key bytes lens p output scratch) (wholeWork lens (length p)) output (sealed key (strings bytes lens) p)

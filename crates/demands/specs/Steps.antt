@@ -1,5 +1,5 @@
 -- The six piecewise calls on any given state: their refusals, what these leave, and what success gives.
--- Rules 3.4, 3.5, 9.4 to 9.12 and 15.7.
+-- Rules 3.4, 3.5, 9.4 to 9.13, 14.2, 15.7 and 15.8.
 -- Assumes nothing.
 use mathlib.Core.Path.{_≡_}
 use mathlib.Core.Bool.{cond}

@@ -40,8 +40,8 @@ module _ (key bytes lens : List ℕ) where
   headWork undivided = 0
   headWork (divided n) = firstHead key bytes lens n .outcome .work
 
-  -- from begin to stage 0 the answers of a list of calls, refused ones included,
-  -- add up to the whole call's sum, less the head's blocks
+  -- rule 15.6, for a list that ends in stage 0, refused calls included: the works sum up to the whole call's,
+  -- with what the head reported on the left
   abbrev pub AddsUp : Begin → List ℕ → List Call → Start → Type 0
   AddsUp begin shared calls start =
       ran key bytes lens begin shared calls start .state .stage ≡ 0

@@ -1,4 +1,5 @@
--- The C interface, "the host door" of the owner's document 01: whole sealing and opening with associated data and nonce,
+-- The C interface, rules 11.1 to 11.3, "the host door" of the owner's document 01:
+-- whole sealing and opening with associated data and nonce,
 -- and opening under a ring of keys; their work, planned from lengths; and the worst header list.
 -- Assumes nothing.
 use mathlib.Core.Path.{_≡_}

@@ -1,4 +1,4 @@
-// Whole sealing and opening, AES-SIV as RFC 5297 has it, with the answers of rules 8.1 to 8.5.
+// Whole sealing and opening, AES-SIV as RFC 5297 has it, by rules 8.1 to 8.5.
 pub mod admitted;
 
 ghost use Rattle.whole.specs.Calls.{sealCall, openCall, Performs};

@@ -1,5 +1,5 @@
 -- The stream state: which ones a call takes, and what a piece makes of one.
--- Rules 9.2, 9.3, 9.9, 9.10 and 15.8.
+-- Rules 9.2, 9.3, 9.9, 9.10, 14.2 and 15.8.
 -- Assumes nothing.
 use mathlib.Core.Path.{_≡_}
 use mathlib.Core.Bool.{Bool, not, cond, _&&_, _||_}

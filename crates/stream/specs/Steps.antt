@@ -1,5 +1,5 @@
 -- The piecewise calls on every state and input: number, length, work,
--- the state after the call and the last contents of the lent output, by rules 9.4 to 9.12 and 15.7.
+-- the state after the call and the last contents of the lent output, by rules 9.4 to 9.13 and 15.7.
 -- Assumes nothing.
 use mathlib.Core.Path.{_≡_}
 use mathlib.Core.Bool.{not, _&&_}

@@ -1,5 +1,5 @@
 -- The tail of a plaintext, and what a piece more makes of it and of the chain over the blocks before it.
--- Document 01, "Piecewise calls".
+-- Rules 9.10 and 15.7.
 -- Assumes nothing.
 use mathlib.Core.Path.{_≡_}
 use mathlib.Core.List.{List, _++_}

@@ -1,4 +1,5 @@
--- The worst header list, "the dearest header list" of the owner's document 02: of all lists of k lengths that sum to h,
+-- The worst header list, rules 16.1, 16.2 and 16.4, "the dearest header list" of the owner's document 02:
+-- of all lists of k lengths that sum to h,
 -- each at least a least length, one whose strings have the most blocks.
 -- Assumes nothing.
 use mathlib.Core.Path.{_≡_}
