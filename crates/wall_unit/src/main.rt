@@ -18,8 +18,8 @@ fn sum(a: usize, b: usize, c: usize, d: usize, e: usize) -> usize {
     std::num::wrapping_add_usize(std::num::wrapping_add_usize(ab, cd), e)
 }
 
-// Seals a record behind the head's strings and its own number. Where a call before it was refused, write is refused
-// as well, so that its answer tells; the work is that of all calls.
+// Seals a record behind the head's strings and its own number. If an earlier call was refused, write is refused too,
+// perhaps with another number. The work is the sum over all calls.
 fn seal(head: Head, number: &[u8], plain: &[u8], tag: &mut [u8], text: &mut [u8]) -> Report {
     let begun = Stream::begin_sealer_from(head, number, &[8]);
     let added = state_of(begun).add(plain);
