@@ -4,6 +4,13 @@
 # The prover's notes go to build/NAME.log; the terminal has a line for each crate as it is proved.
 set -eu -o pipefail
 
+case $#:${2-anew} in
+    1:anew | 2:anew) ;;
+    *)
+        echo 'usage: host/archive.sh NAME [anew]' >&2
+        exit 2
+        ;;
+esac
 name=$1 how=${2-}
 archive=target/staticlib/lib$name.a
 stamp=$archive.sum
@@ -41,7 +48,10 @@ progress() {
 # One run at a time: another's archive under this one's stamp would be up to date for ever.
 mkdir -p build target
 exec 9>target/archive.lock
-flock 9
+flock -n 9 || {
+    echo 'another run is at work on an archive; waiting for it'
+    flock 9
+}
 before=$(sources)
 if [ "$how" != anew ] && [ -f "$archive" ] && [ -f "$stamp" ] && [ "$(cat "$stamp")" = "$(made_of "$before")" ]; then
     exit 0
@@ -53,5 +63,9 @@ rt staticlib "$name" 2>&1 9>&- | tee "$log" | progress || {
     grep -v '^library .* modules \|^logic /' "$log" | tail -n 12 | cut -c 1-300 >&2
     exit 1
 }
+if [ ! -f "$archive" ]; then
+    echo "kinphlor: rt made no $archive; its notes are in $log" >&2
+    exit 1
+fi
 # A file that was changed meanwhile may or may not be in the archive: then there is no stamp.
 if [ "$(sources)" = "$before" ]; then made_of "$before" >"$stamp"; fi

@@ -11,17 +11,19 @@ refuse() {
 [ -n "${PREFIX-}" ] || refuse 'PREFIX is empty; for the root directory say PREFIX=/'
 # kinphlor.pc holds it, so it is made absolute.
 prefix=$(realpath -ms -- "$PREFIX")
+LC_ALL=C
 case $prefix in
     *[[:space:]]*) refuse "PREFIX has a blank in it ($prefix): pkg-config's flags would be split there" ;;
-    *[\#\"\'\\]*) refuse "PREFIX has a #, a quote or a backslash in it ($prefix), which pkg-config does not take" ;;
+    *[!A-Za-z0-9/._+,@=~^-]*) refuse "PREFIX has a character in it that pkg-config does not hand on ($prefix)" ;;
 esac
 prefix=${prefix%/}
 to=${DESTDIR-}$prefix
 
-# What is there already, of it and the folders above it, must be a folder that can be written.
-there=$to/
-while [ -n "$there" ] && [ ! -e "$there" ]; do there=$(dirname -- "$there"); done
-[ -d "$there" ] && [ -w "$there" ] || refuse "cannot write to $there; another place is PREFIX=\$HOME/kinphlor"
+# What is there already, of the two folders and those above them, must be a folder that can be written.
+for there in "$to/include" "$to/lib/pkgconfig"; do
+    while [ ! -e "$there" ] && [ ! -L "$there" ]; do there=$(dirname -- "$there"); done
+    [ -d "$there" ] && [ -w "$there" ] || refuse "cannot write to $there; another place is PREFIX=\$HOME/kinphlor"
+done
 [ "$1" != check ] || exit 0
 
 install -d "$to/include" "$to/lib/pkgconfig"

@@ -20,6 +20,8 @@ if [ "$1" = version ]; then
 fi
 echo run >>runs
 echo 'a note of the prover'
+echo 'library std: modules loaded=16 checked=0'
+if [ -e daemon ]; then sleep 20 >/dev/null 2>&1 & fi
 echo 'rt: one proved (7 s)' >&2
 echo 'rt: three proved (unchanged since it was last proved)' >&2
 if [ -e refuse ]; then
@@ -91,14 +93,27 @@ runs 'what a link leads to is changed' 1
 # While another run holds the lock, this one waits.
 exec 8>target/archive.lock
 flock 8
-"$script" two anew >said 2>&1 8>&- &
-sleep 0.3
 : >runs
-sleep 0.3
+"$script" two anew >said 2>&1 8>&- &
+sleep 0.6
 [ ! -s runs ] || fail 'two runs at once'
+grep -q 'waiting for it' said || fail "a run that waits does not say so: $(cat said)"
 exec 8>&-
 wait $! || fail "a run that had to wait: $(cat said)"
 [ "$(wc -l <runs)" = 1 ] || fail 'a run that had to wait does nothing'
+
+# What rt leaves running does not hold the lock, and an rt that makes nothing is told so.
+touch daemon
+runs 'rt leaves something running' 1 anew
+rm daemon
+flock -n target/archive.lock true || fail 'what rt leaves running holds the lock'
+for wrong in 'two anwe' '' 'two anew anew'; do
+    # shellcheck disable=SC2086
+    if "$script" $wrong >said 2>&1; then fail "archive.sh $wrong is taken"; fi
+    [ "$(cat said)" = 'usage: host/archive.sh NAME [anew]' ] || fail "archive.sh $wrong says: $(cat said)"
+done
+if "$script" three >said 2>&1; then fail 'an archive that rt does not make is taken'; fi
+grep -qx 'kinphlor: rt made no target/staticlib/libthree.a; its notes are in build/three.log' said || fail "$(cat said)"
 
 cp crates/one/src/lib.rt before
 echo wrong >>crates/one/src/lib.rt
@@ -106,6 +121,7 @@ touch refuse
 for how in '' again; do
     if "$script" two >said 2>&1; then fail "rt refuses $how, and archive.sh does not"; fi
     grep -q 'The end of build/two.log' said || fail "a refusal that does not name the log: $(cat said)"
+    if grep -q 'modules loaded' said; then fail "a refusal with counts of modules: $(cat said)"; fi
     grep -qx 'rt: two NOT PROVED (exit 1, 2 s)' said || fail "a refusal that does not show the log: $(cat said)"
     [ ! -e target/staticlib/libtwo.a ] || fail "rt refuses $how, and the archive of before is there"
 done

@@ -78,8 +78,8 @@ impl Tree {
             match fs::metadata(&path).is_ok_and(|meta| meta.is_dir()) {
                 true => self.read(&format!("{path}/")),
                 false => {
-                    let text = fs::read_to_string(&path).unwrap_or_else(|error| panic!("{path}: {error}"));
-                    self.files.push(File { path: path.clone(), text });
+                    let bytes = fs::read(&path).unwrap_or_else(|error| panic!("{path}: {error}"));
+                    self.files.push(File { path: path.clone(), text: String::from_utf8_lossy(&bytes).into_owned() });
                 }
             }
             self.paths.push(path);

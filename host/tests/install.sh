@@ -23,24 +23,30 @@ for prefix in /opt/kinphlor ../../../../../../../../../../../../opt/kinphlor; do
     rm -r "$dir/a stage"
 done
 
-# refuses PREFIX WORDS: make install takes no such PREFIX, says so in one line before anything is proved, and
-# leaves nothing.
+# refuses PREFIX WORDS: make install takes no such PREFIX, says so in one line, leaves nothing, and asks the prover
+# for nothing before: rt is one here that fails and says so.
 refuses() {
     local target
     for target in install install-files; do
-        if "$make" --no-print-directory -s "$target" PREFIX="$1" >"$dir/said" 2>&1; then
+        if PATH=$dir/bin:$PATH "$make" --no-print-directory -s "$target" PREFIX="$1" >"$dir/said" 2>&1; then
             fail "make $target takes PREFIX=$1"
         fi
         [ "$(grep -v '^make' "$dir/said")" = "kinphlor: $2" ] || fail "make $target says: $(cat "$dir/said")"
-        [ "$(ls "$dir")" = "$(printf '%s\n' file said)" ] || fail "make $target PREFIX=$1 leaves: $(ls "$dir")"
+        [ "$(ls "$dir")" = "$(printf '%s\n' bin file said tree)" ] || fail "make $target PREFIX=$1 leaves: $(ls "$dir")"
     done
 }
-touch "$dir/file"
+mkdir "$dir/bin" "$dir/tree"
+printf '#!/bin/sh\necho the prover is asked\nexit 1\n' >"$dir/bin/rt"
+chmod +x "$dir/bin/rt"
+touch "$dir/file" "$dir/tree/include"
 refuses '' 'PREFIX is empty; for the root directory say PREFIX=/'
 refuses "$dir/my lib" "PREFIX has a blank in it ($dir/my lib): pkg-config's flags would be split there"
-refuses "$dir/file/lib" "cannot write to $dir/file; another place is PREFIX=\$HOME/kinphlor"
-for odd in \# \' \" \\; do
-    refuses "$dir/a${odd}b" "PREFIX has a #, a quote or a backslash in it ($dir/a${odd}b), which pkg-config does not take"
+for prefix in file file/lib tree; do
+    at=${prefix/#file*/file} at=${at/#tree/tree\/include}
+    refuses "$dir/$prefix" "cannot write to $dir/$at; another place is PREFIX=\$HOME/kinphlor"
+done
+for odd in \# \' \" \\ \& \; % é; do
+    refuses "$dir/a${odd}b" "PREFIX has a character in it that pkg-config does not hand on ($dir/a${odd}b)"
 done
 PREFIX="$dir/my lib" "$make" --no-print-directory -n lib >/dev/null || fail 'make lib minds a PREFIX'
 
