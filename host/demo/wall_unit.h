@@ -7,7 +7,7 @@
 
 enum { BLOCK_LEN = 16 };
 
-/* Q: the first counter block that follows from a tag (RFC 5297, 2.5). */
+/* Q: the first counter block that follows from a tag (RFC 5297, 2.6). */
 void first_block(uint8_t block[BLOCK_LEN], const uint8_t tag[BLOCK_LEN]);
 
 /* Adds 1 to the big-endian number in a block, with a carry through its last `reach` bytes and no further. */
