@@ -1,4 +1,6 @@
 // What lengths alone tell: which refusal is due, and the work.
+#![tactic(auto)]
+
 ghost use Rattle.std.specs.Prelude.{◌≡◌, ◌++◌, ◌<◌};
 ghost use Rattle.answers.specs.Answer.{Judges};
 ghost use Rattle.whole.specs.Calls.{is_key_length, scratch_need, header_rows, seal_rows, open_rows, opening_rows};

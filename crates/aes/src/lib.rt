@@ -1,4 +1,6 @@
 // AES as FIPS 197 has it, forward only: keys of 16, 24 and 32 bytes.
+#![tactic(auto)]
+
 mod round;
 mod schedule;
 mod word;

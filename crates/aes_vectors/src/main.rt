@@ -1,5 +1,7 @@
 // FIPS 197's worked examples: the key expansions of appendix A, the cipher of appendices B and C,
 // and keys of lengths that are refused.
+#![tactic(auto)]
+
 ghost use Rattle.std.specs.Prelude.{◌≤◌};
 ghost use Rattle.aes.specs.Engine.{Ready};
 

@@ -1,4 +1,6 @@
 // The table of answers: success, or one of its refusals, each with its number.
+#![tactic(auto)]
+
 ghost use Rattle.std.specs.Prelude.{◌≡◌};
 ghost use Rattle.answers.specs.Answer.{number_of};
 

@@ -1,4 +1,6 @@
 // Which refusal of a piecewise call is due, from numbers and from whether the state fits the call.
+#![tactic(auto)]
+
 ghost use Rattle.std.specs.Prelude.{◌≡◌, not, [], ◌∷◌, ◌+◌, ltb};
 ghost use Rattle.answers.specs.Answer.{row, Judges};
 

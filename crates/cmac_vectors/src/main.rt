@@ -1,4 +1,6 @@
 // SP 800-38B's examples of CMAC with AES: the subkeys, and the tags of 0, 16, 40 and 64 bytes, for the three widths.
+#![tactic(auto)]
+
 ghost use Rattle.std.specs.Prelude.{◌≤◌};
 ghost use Rattle.aes.specs.Engine.{Ready, CanEncrypt};
 

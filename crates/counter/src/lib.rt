@@ -1,4 +1,6 @@
 // The counter as RFC 5297 has it: Q from V, and Q + i.
+#![tactic(auto)]
+
 ghost use Rattle.std.specs.Prelude.{◌≡◌, [], ◌∷◌, ◌++◌};
 ghost use Rattle.octets.specs.Octets.{entries};
 ghost use Rattle.counter.specs.Counter.{number, bytes_of_number, initial_counter, counter_block};

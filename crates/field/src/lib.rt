@@ -1,4 +1,6 @@
 // The field of FIPS 197, section 4, and the S-box.
+#![tactic(auto)]
+
 ghost use Rattle.field.specs.Field.{IsSbox};
 
 // The S-box as a table.

@@ -1,4 +1,6 @@
 // Counter mode as AES-GCM-SIV has it, RFC 8452, section 4.
+#![tactic(auto)]
+
 ghost use Rattle.std.specs.Prelude.{◌≡◌, ◌+◌, ◌-◌, ◌^◌, ◌≤◌, min, [], ◌∷◌, length};
 ghost use Rattle.octets.specs.Octets.{xors, part, Writes};
 ghost use Rattle.octets.specs.LittleEndian.{read_little_endian};

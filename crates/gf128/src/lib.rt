@@ -1,1 +1,2 @@
 // No function: the field and POLYVAL are in specs/, their laws in proofs/.
+#![tactic(auto)]

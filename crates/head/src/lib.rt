@@ -1,5 +1,7 @@
 // A prepared head: a key and the first strings of a header list, worked through once;
 // any number of stream states begin from it.
+#![tactic(auto)]
+
 mod admitted;
 pub mod judge;
 

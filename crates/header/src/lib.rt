@@ -1,4 +1,6 @@
 // The header list: one buffer of bytes and a list of lengths; string i is the next lens[i] bytes.
+#![tactic(auto)]
+
 pub mod blocks;
 pub mod reader;
 

@@ -1,4 +1,6 @@
 // The key stream piece by piece: from a place on, what the block that was kept there has left comes first.
+#![tactic(auto)]
+
 ghost use Rattle.std.specs.Prelude.{◌≡◌, cond, ◌+◌, ◌%◌, ◌^◌, ◌≤◌, min, eqb, length};
 ghost use Rattle.aes.specs.Cipher.{cipher};
 ghost use Rattle.keystream.specs.Pieces.{no_block, left_over, XorsPiece};

@@ -1,4 +1,6 @@
 // The key stream under V, RFC 5297, xored into parts of lent slices.
+#![tactic(auto)]
+
 ghost use Rattle.std.specs.Prelude.{◌≡◌, ◌+◌, ◌*◌, ◌^◌, ◌≤◌, length, take};
 ghost use Rattle.octets.specs.Octets.{Writes};
 ghost use Rattle.aes.specs.Cipher.{cipher};

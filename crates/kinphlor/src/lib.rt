@@ -1,5 +1,7 @@
 // The C interface: whole sealing and opening over byte slices, and opening under a ring of keys,
 // with associated data and nonce as the header list; their work, planned from lengths; and the worst header list.
+#![tactic(auto)]
+
 ghost use Rattle.std.specs.Prelude.{◌≡◌, ◌≤◌};
 ghost use Rattle.answers.specs.Answer.{outcome_of};
 ghost use Rattle.whole.specs.Calls.{limit};

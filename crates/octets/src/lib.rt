@@ -1,4 +1,6 @@
 // Byte strings: blocks of 16 bytes by value, and parts of lent slices.
+#![tactic(auto)]
+
 ghost use Rattle.std.specs.Prelude.{◌≡◌, ◌++◌, ◌&&◌, ◌||◌, ◌+◌, ◌≤◌, eqb, ltb, length, drop, replicate};
 ghost use Rattle.octets.specs.Octets.{xors, part, same, all_zero, Writes};
 

@@ -1,4 +1,6 @@
 // Text and bytes in hexadecimal on standard output, for the programs that run test vectors.
+#![tactic(auto)]
+
 use libc::STDOUT_FILENO;
 
 // Writes text as it is.

@@ -1,5 +1,7 @@
 // The calls that the C interface leaves out, exported for the host tests alone: whole calls with any header list,
 // and each piecewise call on a head or a state given as bytes. A call's work comes through its last buffer.
+#![tactic(auto)]
+
 mod fields;
 mod heads;
 mod pieces;

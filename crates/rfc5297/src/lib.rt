@@ -1,4 +1,5 @@
 // The keys, header lists and plaintexts of RFC 5297's appendix A.
+#![tactic(auto)]
 
 // A.1
 pub const A1_KEY: [u8; 32] = [

@@ -1,4 +1,6 @@
 // RFC 5297's appendix A, with every value that it prints on the way.
+#![tactic(auto)]
+
 ghost use Rattle.std.specs.Prelude.{◌+◌, ◌≤◌, ◌<◌, length};
 ghost use Rattle.aes.specs.Engine.{Ready};
 

@@ -1,4 +1,6 @@
 // Whole sealing and opening, AES-SIV as RFC 5297 has it, by rules 8.1 to 8.5.
+#![tactic(auto)]
+
 pub mod admitted;
 
 ghost use Rattle.whole.specs.Calls.{seal_call, open_call, Performs};

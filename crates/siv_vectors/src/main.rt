@@ -1,5 +1,7 @@
 // RFC 5297's appendix A sealed and opened, under the example's key and under a ring of both keys,
 // and each sealed string with one bit of each byte changed in turn.
+#![tactic(auto)]
+
 ghost use Rattle.std.specs.Prelude.{◌≤◌, ◌<◌, length};
 
 use answers::{Answer, Refusal};

@@ -1,4 +1,6 @@
 // Piecewise sealing and opening: a call takes a stream state by value and returns the next with its answer.
+#![tactic(auto)]
+
 mod admitted;
 mod begin;
 mod judge;

@@ -1,5 +1,7 @@
 // RFC 5297's A.2 sealed and opened by pieces and from heads, against the document and the whole calls;
 // then calls in wrong stages, on spoiled states, after the end and past the limit.
+#![tactic(auto)]
+
 mod heads;
 
 ghost use Rattle.std.specs.Prelude.{◌+◌, ◌≤◌, ◌<◌, length};

@@ -1,5 +1,7 @@
 // The tail: the bytes that wait for the plaintext's end.
 // What a piece makes of it and of the CMAC chain over the blocks before it.
+#![tactic(auto)]
+
 ghost use Rattle.std.specs.Prelude.{◌≡◌, ◌++◌, ◌+◌, ◌*◌, ◌^◌, ◌≤◌, ◌<◌, length, drop};
 ghost use Rattle.aes.specs.Cipher.{cipher};
 ghost use Rattle.aes.specs.Engine.{CanEncrypt};

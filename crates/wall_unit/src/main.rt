@@ -1,5 +1,7 @@
 // A wall unit's records: gym, wall and lane go through the cipher once, in a head, and each record is sealed from it,
 // its number behind them; then by the whole call, which goes through all four strings. Each is printed with its work.
+#![tactic(auto)]
+
 use answers::Answer;
 use head::Head;
 use stream::{Step, Stream};

@@ -1,4 +1,6 @@
 // What the whole calls, and what they are made of, hand back. What the calls do is in specs/, and its laws in proofs/.
+#![tactic(auto)]
+
 use answers::Answer;
 
 // An answer, and how many blocks went through the cipher for it:

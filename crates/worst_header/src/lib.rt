@@ -1,4 +1,6 @@
 // The worst header list: how many blocks a record's header strings can have at the most, and lengths that have them.
+#![tactic(auto)]
+
 ghost use Rattle.std.specs.Prelude.{◌≡◌, ◌∷◌, ◌++◌, ◌+◌, ◌-◌, ◌≤◌, length, replicate};
 ghost use Rattle.octets.specs.Octets.{put};
 ghost use Rattle.answers.specs.Answer.{outcome_of};

@@ -1,4 +1,6 @@
 // The two figures of rule 16.3, and each condition for 12, rule 16.4.
+#![tactic(auto)]
+
 use answers::Answer;
 
 // Prints the blocks of the worst header list, or the number of the refusal.
