@@ -12,8 +12,7 @@ use Rattle.octets.proofs.copy_joined.Goals as goal
 
 pub returns : goal.returns
 returns c =
-    let first = c in
-    let args = first.args in
+    let args = c.args in
     let a = args.a.now in
     let b = args.b.now in
     let dst = args.dst.now in
@@ -22,7 +21,7 @@ returns c =
     let front : length (drop args.at a) ≡ k = length-drop args.at a in
     let seam : k ≡ 0 + length (drop args.at a) = omega arith in
     c.copy_at-3.ensures
-    ∙ ap (λ (l : List ℕ). put l k rest) (first.copy_at-2.ensures ∙ ap (put dst 0) (part_rest a args.at))
+    ∙ ap (λ (l : List ℕ). put l k rest) (c.copy_at-2.ensures ∙ ap (put dst 0) (part_rest a args.at))
     ∙ ap (λ (m : ℕ). put (put dst 0 (drop args.at a)) m rest) seam
     ∙ put-put dst 0 (drop args.at a) rest (omega arith)
     ∙ ap (put dst 0) (sym (part_seam a b args.at args.n (omega arith) (omega arith)))

@@ -8,7 +8,6 @@ use Rattle.octets.proofs.load.Goals as goal
 
 pub returns : goal.returns
 returns c =
-    let start = c in
-    let src = start.args.src.now in
-    let at = start.args.at in
+    let src = c.args.src.now in
+    let at = c.args.at in
     c.copy_at.ensures ∙ ap (put _ 0) (part_to src at 16) ∙ put_all _ _ (length_part src at 16 (omega arith))

@@ -13,7 +13,6 @@ loop-i-preserved c = (omega arith, differ_more _ _ _ _ (search rules) (search ru
 
 pub returns : goal.returns
 returns c =
-    let start = c in
-    let a-length : length start.args.a ≡ 16 = search rules in
-    let b-length : length start.args.b ≡ 16 = search rules in
+    let a-length : length c.args.a ≡ 16 = search rules in
+    let b-length : length c.args.b ≡ 16 = search rules in
     differ_all _ _ _ c.loop-i.i (omega arith) (omega arith) c.loop-i.invariant.1

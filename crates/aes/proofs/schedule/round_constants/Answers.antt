@@ -3,12 +3,8 @@
 use mathlib.Core.Path.{refl}
 use Rattle.field.specs.Field.{power, mul, products, xtimes}
 use Rattle.aes.proofs.KeyWords.{powers}
-use Rattle.aes.proofs.schedule.round_constants.Statement.{statement}
-use Rattle.aes.proofs.schedule.round_constants.Tie as tie
+use Rattle.aes.proofs.schedule.round_constants.Goals as goal
 
-returns : tie.Need-returns
+pub returns : goal.returns
 unfolding power mul products xtimes
 returns c = powers _ refl
-
-pub round-constants-spec : {M : Type 1} → statement M
-round-constants-spec = tie.close (tie.spec returns)

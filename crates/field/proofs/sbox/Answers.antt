@@ -3,12 +3,8 @@
 use mathlib.Core.Path.{refl}
 use Rattle.field.specs.Field.{sbox, affine, from_bits, bit, inverse, squares, mul, products, xtimes}
 use Rattle.field.proofs.Laws.{is_sbox}
-use Rattle.field.proofs.sbox.Statement.{statement}
-use Rattle.field.proofs.sbox.Tie as tie
+use Rattle.field.proofs.sbox.Goals as goal
 
-returns : tie.Need-returns
+pub returns : goal.returns
 unfolding sbox affine from_bits bit inverse squares mul products xtimes
 returns c = is_sbox _ refl
-
-pub sbox-spec : {M : Type 1} → statement M
-sbox-spec = tie.close (tie.spec returns)
