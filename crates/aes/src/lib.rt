@@ -21,14 +21,14 @@ pub type Engine = field::Sbox;
 pub type RoundKeys = [u8; 240];
 
 // A block, and with how many cipher calls it was made.
-#[derive(Drop)]
+#[derive(Clone, Copy)]
 pub struct Counted {
     pub block: Block,
     pub work: usize,
 }
 
 // The state, a word for each column.
-#[derive(Drop)]
+#[derive(Clone, Copy)]
 struct State {
     c0: u32,
     c1: u32,
@@ -37,7 +37,7 @@ struct State {
 }
 
 // What the key expansion answers, each case with its number.
-#[derive(Drop)]
+#[derive(Clone, Copy)]
 pub enum KeyAnswer {
     // Number 0: the round keys are those of the key.
     Expanded,

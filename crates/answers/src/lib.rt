@@ -5,7 +5,7 @@ ghost use Rattle.std.specs.Prelude.{◌≡◌};
 ghost use Rattle.answers.specs.Answer.{number_of};
 
 // Why a call is refused, in the order of the numbers.
-#[derive(Drop)]
+#[derive(Clone, Copy)]
 pub enum Refusal {
     // The key has not 32, 48 or 64 bytes.
     KeyLength,
@@ -34,7 +34,7 @@ pub enum Refusal {
 }
 
 // Success with a count of bytes, or a refusal.
-#[derive(Drop)]
+#[derive(Clone, Copy)]
 pub enum Answer {
     Ok(usize),
     Refused(Refusal),

@@ -13,7 +13,7 @@ use aes::{Counted, Engine, RoundKeys};
 use octets::Block;
 
 // K1 and K2.
-#[derive(Drop)]
+#[derive(Clone, Copy)]
 pub struct Subkeys {
     pub k1: Block,
     pub k2: Block,

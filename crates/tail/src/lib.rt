@@ -17,7 +17,7 @@ use octets::Block;
 pub type Tail = [u8; 31];
 
 // What a piece of plaintext leaves: the chain with its work, how many bytes there are in all, the tail and its length.
-#[derive(Drop)]
+#[derive(Clone, Copy)]
 pub struct Absorbed {
     pub chain: Counted,
     pub total: usize,

@@ -5,7 +5,7 @@ use answers::Answer;
 
 // An answer, and how many blocks went through the cipher for it:
 // 0 after a refusal other than Forged, which took as many as success.
-#[derive(Drop)]
+#[derive(Clone, Copy)]
 pub struct Report {
     pub answer: Answer,
     pub work: usize,
@@ -13,7 +13,7 @@ pub struct Report {
 
 // An answer, the slot of the ring whose key opened,
 // which is 0 after a refusal, and the work for all keys that were tried.
-#[derive(Drop)]
+#[derive(Clone, Copy)]
 pub struct RingAnswer {
     pub answer: Answer,
     pub slot: usize,
@@ -21,7 +21,7 @@ pub struct RingAnswer {
 }
 
 // Whether a sealed string is genuine, and the work that it took to tell.
-#[derive(Drop)]
+#[derive(Clone, Copy)]
 pub struct Verdict {
     pub genuine: bool,
     pub work: usize,
@@ -29,7 +29,7 @@ pub struct Verdict {
 
 // Where trying the slots of a ring ended, the first whose key opens,
 // or the number of slots where none does; and the work for all keys that were tried.
-#[derive(Drop)]
+#[derive(Clone, Copy)]
 pub struct Found {
     pub slot: usize,
     pub work: usize,
