@@ -9,13 +9,13 @@ pub returns-then-sum-lo : goal.returns-then-sum-lo
 returns-then-sum-lo c =
     let q-length : length c.args.q ≡ 16 = search rules in
     c.block_of_halves.ensures
-    ∙ ap (λ (n : ℕ). bytes_of_number 8 n ++ bytes_of_number 8 c.wrapping_add_u64-sum.result) c.wrapping_add_u64.ensures
+    ∙ ap (λ (n : ℕ). bytes_of_number 8 n ++ bytes_of_number 8 c.wrapping_add_u64-sum.result) c.wrapping_add_u64.ensures.value
     ∙ counter_block_carried c.args.q q-length c.high-hi.ensures c.low-lo.ensures
-    (omega arith) (omega arith) c.wrapping_add_u64-sum.ensures c.if-sum-lo.true
+    (omega arith) (omega arith) c.wrapping_add_u64-sum.ensures.value c.if-sum-lo.true
 
 pub returns : goal.returns
 returns c =
     let q-length : length c.args.q ≡ 16 = search rules in
     c.block_of_halves-2.ensures
     ∙ counter_block_kept c.args.q q-length c.high-hi.ensures c.low-lo.ensures
-    (omega arith) (omega arith) c.wrapping_add_u64-sum.ensures c.if-sum-lo.false
+    (omega arith) (omega arith) c.wrapping_add_u64-sum.ensures.value c.if-sum-lo.false
