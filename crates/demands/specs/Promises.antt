@@ -2,7 +2,7 @@
 -- are the definition's, and so are the lent buffers as they are left. Which definition it is stands in the contract.
 -- Assumes nothing.
 use Rattle.std.specs.Prelude.{◌≡◌, List, ℕ, length, replicate}
-use Rattle.octets.specs.Octets.{Lent}
+use Rattle.octets.specs.Octets.{Lent, LentMut}
 use Rattle.aes.specs.declared.Expansion.{Expansion}
 use Rattle.aes.specs.declared.KeyAnswer.TheVariants.{Expanded, Refused}
 use Rattle.aes.specs.Aes.{key_number, Expands}
@@ -27,10 +27,10 @@ abbrev WholeFromC : Type 0
 WholeFromC = List ℕ → List ℕ → ℕ → ℕ → List ℕ → List ℕ → List ℕ → CallResult
 
 pub record Promises : Type 0 where
-  pub whole : (call : Whole) (key header lens input output scratch : Lent) (report : Report) → Performs call key header lens input output scratch report
+  pub whole : (call : Whole) (key header lens input : Lent) (output scratch : LentMut) (report : Report) → Performs call key header lens input output scratch report
       → let r = call key.entry.now header.entry.now lens.entry.now input.entry.now output.entry.now scratch.entry.now in
       (outcome_of report.answer report.work ≡ r.outcome) × (output.exit.now ≡ r.output) × (scratch.exit.now ≡ r.scratch)
-  pub ring : (key_length : ℕ) (keys header lens input output scratch : Lent) (given : RingAnswer)
+  pub ring : (key_length : ℕ) (keys header lens input : Lent) (output scratch : LentMut) (given : RingAnswer)
       → PerformsRing key_length keys header lens input output scratch given
       → let r = open_ring key_length keys.entry.now header.entry.now lens.entry.now input.entry.now output.entry.now scratch.entry.now in
       (outcome_of given.answer given.work ≡ r.call.outcome) × (given.slot ≡ r.slot) × (output.exit.now ≡ r.call.output)
@@ -39,10 +39,10 @@ pub record Promises : Type 0 where
   pub step : (result : StepResult) (step : Step) (last : List ℕ) → DidStep result step last
       → (outcome_of step.answer step.work ≡ result.outcome) × (step.state ≡ result.state) × (last ≡ result.output)
   -- from C: the number in place of the answer
-  pub from_c : (call : WholeFromC) (key header input output scratch : Lent) (ad nonce given : ℕ) → PerformsFromC call key header ad nonce input output scratch given
+  pub from_c : (call : WholeFromC) (key header input : Lent) (output scratch : LentMut) (ad nonce given : ℕ) → PerformsFromC call key header ad nonce input output scratch given
       → let r = call key.entry.now header.entry.now ad nonce input.entry.now output.entry.now scratch.entry.now in
       (given ≡ packed r.outcome) × (output.exit.now ≡ r.output) × (scratch.exit.now ≡ r.scratch)
-  pub ring_from_c : (key_length : ℕ) (keys header input output scratch : Lent) (ad nonce given : ℕ)
+  pub ring_from_c : (key_length : ℕ) (keys header input : Lent) (output scratch : LentMut) (ad nonce given : ℕ)
       → PerformsRingFromC key_length keys header ad nonce input output scratch given
       → let r = open_ring_from_c key_length keys.entry.now header.entry.now ad nonce input.entry.now output.entry.now scratch.entry.now in
       (given ≡ packed_ring r.slot r.call.outcome) × (output.exit.now ≡ r.call.output) × (scratch.exit.now ≡ r.call.scratch)

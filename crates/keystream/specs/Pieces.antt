@@ -2,7 +2,7 @@
 -- is kept for the next one.
 -- Assumes nothing.
 use Rattle.std.specs.Prelude.{cond, List, ◌++◌, ℕ, ◌+◌, ◌-◌, ◌*◌, ◌/◌, ◌%◌, eqb, length, drop, replicate}
-use Rattle.octets.specs.Octets.{xors, Lent, Writes}
+use Rattle.octets.specs.Octets.{xors, Lent, LentMut, Writes}
 use Rattle.aes.specs.declared.Counted.{Counted}
 use Rattle.aes.specs.Work.{Reports}
 use Rattle.counter.specs.Counter.{initial_counter, counter_block}
@@ -43,6 +43,6 @@ kept_after E v kept place n =
 
 -- what a piece of the key stream promises: src, xored from byte `place` on, is at place `at` of dst,
 -- and r is the block that is kept then, with its work
-pub record XorsPiece (E : List ℕ → List ℕ) (v old : List ℕ) (place : ℕ) (src dst : Lent) (at : ℕ) (r : Counted) : Type 0 where
+pub record XorsPiece (E : List ℕ → List ℕ) (v old : List ℕ) (place : ℕ) (src : Lent) (dst : LentMut) (at : ℕ) (r : Counted) : Type 0 where
   pub kept : Reports (kept_after E v old place (length src.entry.now)) (piece_work place (length src.entry.now)) r
   pub text : Writes dst at (xor_piece E v old place src.entry.now)

@@ -3,7 +3,7 @@
 -- and opening under a ring of keys; their work, planned from lengths; and the worst header list.
 -- Assumes nothing.
 use Rattle.std.specs.Prelude.{◌≡◌, Bool, cond, ◌&&◌, List, [], ◌∷◌, ℕ, ◌+◌, ◌*◌, ◌/◌, ◌%◌, eqb, length}
-use Rattle.octets.specs.Octets.{Lent}
+use Rattle.octets.specs.Octets.{Lent, LentMut}
 use Rattle.answers.specs.Answer.{Outcome, refusal, first}
 use Rattle.worst_header.specs.WorstHeader.{GivesWorst}
 use Rattle.whole.specs.Calls.{is_key_length, CallResult, refused_call, seal_call, open_call}
@@ -44,7 +44,7 @@ pub record DidPacked (result : CallResult) (given : ℕ) (lastOutput lastScratch
 
 -- what a call of the interface promises: with what the lent slices held at entry,
 -- its number and what output and scratch hold at exit are the definition's
-abbrev pub PerformsFromC : (List ℕ → List ℕ → ℕ → ℕ → List ℕ → List ℕ → List ℕ → CallResult) → Lent → Lent → ℕ → ℕ → Lent → Lent → Lent → ℕ → Type 0
+abbrev pub PerformsFromC : (List ℕ → List ℕ → ℕ → ℕ → List ℕ → List ℕ → List ℕ → CallResult) → Lent → Lent → ℕ → ℕ → Lent → LentMut → LentMut → ℕ → Type 0
 PerformsFromC call key header ad nonce input output scratch given =
     DidPacked (call key.entry.now header.entry.now ad nonce input.entry.now output.entry.now scratch.entry.now) given
     output.exit.now scratch.exit.now
@@ -72,7 +72,7 @@ pub record DidPackedRing (result : RingResult) (given : ℕ) (lastOutput lastScr
   pub scratch : lastScratch ≡ result.call.scratch
 
 -- what a ring's call of the interface promises
-abbrev pub PerformsRingFromC : ℕ → Lent → Lent → ℕ → ℕ → Lent → Lent → Lent → ℕ → Type 0
+abbrev pub PerformsRingFromC : ℕ → Lent → Lent → ℕ → ℕ → Lent → LentMut → LentMut → ℕ → Type 0
 PerformsRingFromC key_length ring header ad nonce input output scratch given =
     DidPackedRing
     (open_ring_from_c key_length ring.entry.now header.entry.now ad nonce input.entry.now output.entry.now scratch.entry.now) given

@@ -2,7 +2,7 @@
 -- Assumes nothing.
 use Rattle.std.specs.Prelude.{◌≡◌, Bool, true, false, ◌&&◌, List, [], ◌∷◌, ◌++◌, ℕ, zero, suc, ◌+◌, eqb, length, take, drop, get_or}
 use Rattle.std.specs.Int.Bits.{bit_xor}
-use Rattle.std.specs.Borrow.{MutBor}
+use Rattle.std.specs.Borrow.{Bor, MutBor}
 use denote.Triple.Both.{Both}
 
 -- `b` xored into the front of `a`: as long as `a`; what `b` lacks counts as zeros, what it has beyond `a` is left out
@@ -15,12 +15,16 @@ xors (x ∷ a) (y ∷ b) = bit_xor x y ∷ xors a b
 unfoldable pub put : List ℕ → ℕ → List ℕ → List ℕ
 put l at s = take at l ++ s ++ drop (at + length s) l
 
--- a lent slice, as it came (`entry`) and as it is left (`exit`)
+-- a slice that is lent to be read, as it came (`entry`) and as it is left (`exit`)
 abbrev pub Lent : Type 0
-Lent = Both (MutBor (List ℕ)) (MutBor (List ℕ))
+Lent = Both (Bor (List ℕ)) (Bor (List ℕ))
+
+-- a slice that is lent to be written, likewise
+abbrev pub LentMut : Type 0
+LentMut = Both (MutBor (List ℕ)) (MutBor (List ℕ))
 
 -- a lent slice is left with `s` from place `at` on, and as it came elsewhere
-abbrev pub Writes : Lent → ℕ → List ℕ → Type 0
+abbrev pub Writes : LentMut → ℕ → List ℕ → Type 0
 Writes dst at s = dst.exit.now ≡ put dst.entry.now at s
 
 -- `n` bytes of `l` from place `at` on

@@ -2,7 +2,7 @@
 -- work and the last contents of each lent buffer, by rules 8.1 to 8.5 and 15.2.
 -- Assumes nothing.
 use Rattle.std.specs.Prelude.{◌≡◌, Bool, true, not, ◌||◌, List, [], ◌∷◌, ◌++◌, ℕ, ◌+◌, ◌-◌, max, ltb, eqb, length, replicate}
-use Rattle.octets.specs.Octets.{put, Lent}
+use Rattle.octets.specs.Octets.{put, Lent, LentMut}
 use Rattle.header.specs.Header.{total, strings, Walkable}
 use Rattle.answers.specs.Answer.{Outcome, success, refusal, forged, outcome_of, Row, row, first, settle, forged_or}
 use Rattle.whole.specs.declared.Report.{Report}
@@ -107,7 +107,7 @@ module _ (key bytes lens input output scratch : List ℕ) where
 
 -- what a whole call promises: with what the lent slices held at entry,
 -- its report and what output and scratch hold at exit are the definition's
-abbrev pub Performs : (List ℕ → List ℕ → List ℕ → List ℕ → List ℕ → List ℕ → CallResult) → Lent → Lent → Lent → Lent → Lent → Lent → Report → Type 0
+abbrev pub Performs : (List ℕ → List ℕ → List ℕ → List ℕ → List ℕ → List ℕ → CallResult) → Lent → Lent → Lent → Lent → LentMut → LentMut → Report → Type 0
 Performs call key header lens input output scratch report =
     DidCall (call key.entry.now header.entry.now lens.entry.now input.entry.now output.entry.now scratch.entry.now) report
     output.exit.now scratch.exit.now

@@ -2,7 +2,7 @@
 -- work and the last contents of each lent buffer, by rules 12.1 to 12.4 and 15.4.
 -- Assumes nothing.
 use Rattle.std.specs.Prelude.{◌≡◌, Bool, true, not, cond, ◌||◌, List, [], ◌∷◌, ℕ, zero, suc, ◌+◌, ◌-◌, ◌*◌, ◌/◌, ◌≤◌, ◌<◌, ltb, eqb, length, drop}
-use Rattle.octets.specs.Octets.{Lent, Writes, part}
+use Rattle.octets.specs.Octets.{Lent, LentMut, Writes, part}
 use Rattle.answers.specs.Answer.{Row, row, first, settle}
 use Rattle.whole.specs.declared.Found.{Found}
 use Rattle.whole.specs.declared.RingAnswer.{RingAnswer}
@@ -39,7 +39,7 @@ HasSlots key_length ring slots = (is_key_length key_length ≡ true) × (slots *
 
 -- what trying the slots of a ring on a scratch promises: where a key opened,
 -- the scratch has its plaintext; past a plaintext's length it is as it came
-pub record TriesSlots (key_length slots : ℕ) (ring : List ℕ) (ss : List (List ℕ)) (y : List ℕ) (scratch : Lent) (end : Found) : Type 0 where
+pub record TriesSlots (key_length slots : ℕ) (ring : List ℕ) (ss : List (List ℕ)) (y : List ℕ) (scratch : LentMut) (end : Found) : Type 0 where
   pub found : end ≡ try_slots (λ i. genuine (slot_key key_length ring i) ss y) (λ i. genuine_work (slot_key key_length ring i) ss y) 0 0 slots
   pub text : end.slot < slots → Writes scratch 0 (opened (slot_key key_length ring end.slot) y)
   pub rest : drop (length y - 16) scratch.exit.now ≡ drop (length y - 16) scratch.entry.now
@@ -99,7 +99,7 @@ module _ (key_length : ℕ) (ring bytes lens input output scratch : List ℕ) wh
 
 -- what a ring's call promises: with what the lent slices held at entry,
 -- its answer, slot and what output and scratch hold at exit are the definition's
-abbrev pub PerformsRing : ℕ → Lent → Lent → Lent → Lent → Lent → Lent → RingAnswer → Type 0
+abbrev pub PerformsRing : ℕ → Lent → Lent → Lent → Lent → LentMut → LentMut → RingAnswer → Type 0
 PerformsRing key_length ring header lens input output scratch given =
     DidRing (open_ring key_length ring.entry.now header.entry.now lens.entry.now input.entry.now output.entry.now scratch.entry.now) given
     output.exit.now scratch.exit.now

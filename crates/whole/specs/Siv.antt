@@ -2,7 +2,7 @@
 -- beside what calls the cipher stands its work, the number of these calls.
 -- Assumes nothing.
 use Rattle.std.specs.Prelude.{◌≡◌, Bool, List, ◌++◌, ℕ, ◌+◌, ◌/◌, ◌≤◌, length, take, drop}
-use Rattle.octets.specs.Octets.{same, Lent, Writes}
+use Rattle.octets.specs.Octets.{same, LentMut, Writes}
 use Rattle.aes.specs.declared.Counted.{Counted}
 use Rattle.aes.specs.Aes.{aes}
 use Rattle.aes.specs.Work.{Reports}
@@ -57,7 +57,7 @@ abbrev pub IsTag : List ℕ → List (List ℕ) → List ℕ → Counted → Typ
 IsTag key ss p r = Reports (tag_of key ss p) (tag_of_work key ss p) r
 
 -- 2.7: what decrypting to the front of a scratch and recomputing the tag promise
-pub record Decrypts (key : List ℕ) (ss : List (List ℕ)) (y : List ℕ) (scratch : Lent) (verdict : Verdict) : Type 0 where
+pub record Decrypts (key : List ℕ) (ss : List (List ℕ)) (y : List ℕ) (scratch : LentMut) (verdict : Verdict) : Type 0 where
   pub judged : verdict.genuine ≡ genuine key ss y
   pub work : verdict.work ≡ genuine_work key ss y
   pub text : Writes scratch 0 (opened key y)
