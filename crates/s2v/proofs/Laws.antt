@@ -15,7 +15,7 @@ use Rattle.cmac.specs.Cmac.{zeros, double, pad, blocks_before, chain, cmac_from,
 use Rattle.cmac.proofs.Laws.{length-double, cmac_work_lem, chain_front, cmac_split}
 use Rattle.header.specs.Header.{total, strings}
 use Rattle.header.proofs.Laws.{total-take, strings_more}
-use Rattle.s2v.specs.S2v.{xorend, last_string, tail_length, absorb_strings, absorb_work, header_result, tag_from, tag_from_work, tag}
+use Rattle.s2v.specs.S2v.{absorb_one, xorend, last_string, tail_length, absorb_strings, absorb_work, header_result, tag_from, tag_from_work, tag}
 
 -- ---- the tail
 
@@ -134,12 +134,12 @@ tag_work d p e = cmac_work_lem (last_string d p) ∙ go (dec_lt (length p) 16)
 pub absorb_append : (E : List ℕ → List ℕ) (k : Subkeys) (d : List ℕ) (a b : List (List ℕ)) → absorb_strings E k d (a ++ b) ≡ absorb_strings E k (absorb_strings E k d a) b
 unfolding absorb_strings
 absorb_append E k d [] b = refl
-absorb_append E k d (s ∷ a) b = absorb_append E k _ a b
+absorb_append E k d (s ∷ a) b = absorb_append E k (absorb_one E k d s) a b
 
 length-absorb_strings : (E : List ℕ → List ℕ) (k : Subkeys) (d : List ℕ) (ss : List (List ℕ)) → length (absorb_strings E k d ss) ≡ length d
 unfolding absorb_strings
 length-absorb_strings E k d [] = refl
-length-absorb_strings E k d (s ∷ ss) = length-absorb_strings E k _ ss ∙ length-xors (double d) (cmac E k s) ∙ length-double d
+length-absorb_strings E k d (s ∷ ss) = length-absorb_strings E k (absorb_one E k d s) ss ∙ length-xors (double d) (cmac E k s) ∙ length-double d
 
 pub length-header_result : (E : List ℕ → List ℕ) → ((b : List ℕ) → length (E b) ≡ 16) → (k : Subkeys) (ss : List (List ℕ)) → length (header_result E k ss) ≡ 16
 unfolding header_result cmac_from
@@ -148,7 +148,7 @@ length-header_result E sized k ss = length-absorb_strings E k _ ss ∙ sized _
 absorb_work-append : (w : ℕ) (a b : List (List ℕ)) → absorb_work w (a ++ b) ≡ absorb_work (absorb_work w a) b
 unfolding absorb_work
 absorb_work-append w [] b = refl
-absorb_work-append w (s ∷ a) b = absorb_work-append _ a b
+absorb_work-append w (s ∷ a) b = absorb_work-append (w + cmac_work s) a b
 
 -- a string has a block at the most for every 16 bytes, and one
 absorb_work_most : (w : ℕ) (bytes lens : List ℕ) → 16 * absorb_work w (strings bytes lens) ≤ 16 * (w + length lens) + total lens
