@@ -8,7 +8,7 @@ use native.Mathlib.Omega.{arith}
 use lib.Dec.{eqb}
 use lib.ListN.{length, take, drop, length-drop}
 use lib.Seq.{take_all, length-take-le}
-use Rattle.octets.specs.Octets.{xors, put, Lent, Writes}
+use Rattle.octets.specs.Octets.{xors, put, Lent, LentMut, Writes}
 use Rattle.octets.proofs.Strings.{length-xors, put-put, part_rest}
 use Rattle.aes.specs.declared.Counted.{Counted}
 use Rattle.aes.specs.Work.{Reports}
@@ -20,7 +20,7 @@ use Rattle.keystream.proofs.Laws.{piece_work_within, piece_work_beyond, piece_wo
 abbrev pub from_kept : List ℕ → ℕ → List ℕ → ℕ → List ℕ
 from_kept kept place text n = xors (take n text) (take (16 - place % 16) (drop (place % 16) kept))
 
-module _ (E : List ℕ → List ℕ) (sized : (b : List ℕ) → length (E b) ≡ 16) (v kept : List ℕ) (long : length kept ≡ 16) (place : ℕ) (src dst : Lent) (at n : ℕ)
+module _ (E : List ℕ → List ℕ) (sized : (b : List ℕ) → length (E b) ≡ 16) (v kept : List ℕ) (long : length kept ≡ 16) (place : ℕ) (src : Lent) (dst : LentMut) (at n : ℕ)
     (taken : n ≡ min (left_over place) (length src.entry.now)) where
   abbrev text : List ℕ
   text = src.entry.now
