@@ -111,11 +111,18 @@ number_most RingLength = omega arith
 number_most HeaderPlan = omega arith
 
 -- what a match tells of an answer: 0 and 1 are the places of its cases
-abbrev IsOk : Answer → Type 0
+abbrev pub IsOk : Answer → Type 0
 IsOk a = OneOf (0 ∷ []) (declared.tag_of the_type a)
 
 abbrev pub IsRefused : Answer → Type 0
 IsRefused a = OneOf (1 ∷ []) (declared.tag_of the_type a)
+
+-- what the arm of a match knows says the same
+pub arm_refused : (a : Answer) (r : Refusal) → a ≡ Refused r → IsRefused a
+arm_refused a r e = subst IsRefused (sym e) refl
+
+pub arm_ok : (a : Answer) (n : ℕ) → a ≡ Ok n → IsOk a
+arm_ok a n e = subst IsOk (sym e) refl
 
 pub told_refused : (a : Answer) → IsRefused a → (outcome_of a 0).number ≡ 0 → ⊥
 told_refused (Ok n) k e = let z : ◌≡◌ {A = ℕ} 0 1 = k in omega arith
