@@ -37,7 +37,13 @@ fn expansion(out: &impl Print, engine: &Engine, label: &[u8], key: &[u8]) -> io:
 }
 
 // Prints the cipher of a block under a key, or that the key is refused.
-fn encryption(out: &impl Print, engine: &Engine, label: &[u8], key: &[u8], block: Block) -> io::Result<()>
+fn encryption(
+    out: &impl Print,
+    engine: &Engine,
+    label: &[u8],
+    key: &[u8],
+    block: Block,
+) -> io::Result<()>
     requires { Ready engine.now }
 {
     printer::text(out, label)?;

@@ -18,7 +18,15 @@ const MESSAGE: [u8; 64] = [
 ];
 
 // Prints the tag of the first n bytes of the message.
-fn tag(out: &impl Print, engine: &Engine, width: usize, keys: &RoundKeys, k: Subkeys, label: &[u8], n: usize) -> io::Result<()>
+fn tag(
+    out: &impl Print,
+    engine: &Engine,
+    width: usize,
+    keys: &RoundKeys,
+    k: Subkeys,
+    label: &[u8],
+    n: usize,
+) -> io::Result<()>
     requires { CanEncrypt engine.now width × (n ≤ 64) }
 {
     let mac = cmac::cmac_from(engine, width, keys, k, [0u8; 16], &MESSAGE[0..n]);
@@ -34,7 +42,13 @@ fn print_subkeys(out: &impl Print, k: Subkeys) -> io::Result<()> {
     printer::line(out, b"    K2", &k2)
 }
 
-fn tags(out: &impl Print, engine: &Engine, width: usize, keys: &RoundKeys, k: Subkeys) -> io::Result<()>
+fn tags(
+    out: &impl Print,
+    engine: &Engine,
+    width: usize,
+    keys: &RoundKeys,
+    k: Subkeys,
+) -> io::Result<()>
     requires { CanEncrypt engine.now width }
 {
     tag(out, engine, width, keys, k, b"     0", 0)?;
@@ -58,7 +72,7 @@ fn examples(out: &impl Print, engine: &Engine, label: &[u8], key: &[u8]) -> io::
         print_subkeys(out, k)?;
         tags(out, engine, width, &keys, k)?;
     }
-    Ok(()) // LOOK
+    Ok(())
 }
 
 fn main(rt: HostRuntime) -> io::Result<()> {

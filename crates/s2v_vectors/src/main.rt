@@ -41,7 +41,14 @@ fn start(out: &impl Print, engine: &Engine, keys: &RoundKeys, k: Subkeys) -> io:
 }
 
 // Prints D with one string more.
-fn string(out: &impl Print, engine: &Engine, keys: &RoundKeys, k: Subkeys, d: Block, s: &[u8]) -> io::Result<Block>
+fn string(
+    out: &impl Print,
+    engine: &Engine,
+    keys: &RoundKeys,
+    k: Subkeys,
+    d: Block,
+    s: &[u8],
+) -> io::Result<Block>
     requires { Ready engine.now }
 {
     let doubled = cmac::double(d);
@@ -88,7 +95,13 @@ fn counter(out: &impl Print, engine: &Engine, keys: &RoundKeys, q: Block, i: u64
 }
 
 // Prints the ciphertext of a plaintext of up to 64 bytes under a tag.
-fn ciphertext(out: &impl Print, engine: &Engine, keys: &RoundKeys, v: Block, p: &[u8]) -> io::Result<()>
+fn ciphertext(
+    out: &impl Print,
+    engine: &Engine,
+    keys: &RoundKeys,
+    v: Block,
+    p: &[u8],
+) -> io::Result<()>
     requires { Ready engine.now × (length p.now ≤ 64) }
 {
     let n = p.len();

@@ -4,8 +4,8 @@ ghost use Rattle.std.specs.Prelude.{◌≤◌, length};
 use crate::{opened, show, show_answer, state_of, write_at};
 use head::{Head, Made};
 use rfc5297::{A2_HEADER, A2_KEY, A2_LENS, A2_PLAINTEXT};
-use stream::{Step, Stream};
 use std::io;
+use stream::{Step, Stream};
 
 // Where the first n of A.2's three strings end.
 fn end_of(n: usize) -> usize
@@ -96,7 +96,7 @@ fn by_head(out: &impl Print, n: usize) -> io::Result<()>
     if opens_from(n, &sealed) {
         printer::text(out, b"  opened\n")?;
     }
-    Ok(()) // LOOK
+    Ok(())
 }
 
 // Arguments that make and extend refuse.
@@ -105,20 +105,22 @@ fn refused_heads(out: &impl Print) -> io::Result<()> {
     let header = A2_HEADER;
     let lens = A2_LENS;
     let empty = [0u32; 127];
-    show_made(out,
+    show_made(
+        out,
         b"  key of 31 bytes",
         Head::make(&key[0..31], &header, &lens),
     )?;
     show_made(out, b"  127 strings", Head::make(&key, &[], &empty))?;
-    show_made(out,
+    show_made(
+        out,
         b"  lengths that do not sum to the header",
         Head::make(&key, &header, &lens[0..2]),
     )?;
-    show_made(out,
+    show_made(
+        out,
         b"  126 strings behind one",
         head_of(1).extend(&[], &empty[0..126]),
-    )?;
-    Ok(())
+    )
 }
 
 // Heads that no call gives: the two things that 9 judges, and one that is used as it is.
@@ -131,27 +133,37 @@ fn spoiled_heads(out: &impl Print) -> io::Result<()> {
     show(out, b"  127 strings in the head", begin(h, &[], &[]))?;
     let mut h = head_of(3);
     h.d = [0xffu8; 16];
-    show(out, b"  another D, which is used as it is", begin(h, &[], &[]))
+    show(
+        out,
+        b"  another D, which is used as it is",
+        begin(h, &[], &[]),
+    )
 }
 
 // Strings behind a head up to the bound and past it, and a rest and a tag that begin refuses.
 fn rests(out: &impl Print) -> io::Result<()> {
     let empty = [0u32; 126];
     let tag = [0u8; 15];
-    show(out, b"  126 strings behind one", begin(head_of(1), &[], &empty))?;
-    show(out,
+    show(
+        out,
+        b"  126 strings behind one",
+        begin(head_of(1), &[], &empty),
+    )?;
+    show(
+        out,
         b"  125 strings behind one",
         begin(head_of(1), &[], &empty[0..125]),
     )?;
-    show(out,
+    show(
+        out,
         b"  lengths that do not sum to the rest",
         begin(head_of(1), &tag, &[10]),
     )?;
-    show(out,
+    show(
+        out,
         b"  tag of 15 bytes",
         Stream::begin_opener_from(head_of(3), &[], &[], &tag),
-    )?;
-    Ok(())
+    )
 }
 
 // Prints A.2 from heads, and what is refused.

@@ -8,8 +8,8 @@ ghost use Rattle.std.specs.Prelude.{◌+◌, ◌≤◌, ◌<◌, length};
 
 use answers::Answer;
 use rfc5297::{A2_HEADER, A2_KEY, A2_LENS, A2_PLAINTEXT};
-use stream::{Step, Stream};
 use std::io;
+use stream::{Step, Stream};
 
 pub(crate) fn state_of(step: Step) -> Stream {
     let s = step.state;
@@ -252,9 +252,17 @@ fn finished(out: &impl Print, sealed: &[u8]) -> io::Result<()>
 {
     let mut plain = [0u8; 47];
     let fed = feed_at(opener_of(sealed), sealed, 16, 62, &mut plain);
-    show(out, b"  finish before the last byte", fed.finish(&mut plain))?;
+    show(
+        out,
+        b"  finish before the last byte",
+        fed.finish(&mut plain),
+    )?;
     let finished = state_of(fed.finish(&mut plain));
-    show(out, b"  feed after finish", finished.feed(sealed, &mut plain))?;
+    show(
+        out,
+        b"  feed after finish",
+        finished.feed(sealed, &mut plain),
+    )?;
     show(out, b"  finish again", finished.finish(&mut plain))
 }
 
@@ -301,9 +309,14 @@ fn kept_blocks(out: &impl Print) -> io::Result<()> {
     show(out, b"  kept block in stage 1", s.turn(&mut output))?;
     let mut s = state_of(state_of(sealer().add(&p)).turn(&mut output));
     s.kept = [0xffu8; 16];
-    show(out, b"  kept block of none written", s.write(&p, &mut output))?;
+    show(
+        out,
+        b"  kept block of none written",
+        s.write(&p, &mut output),
+    )?;
     s.written = 46;
-    show(out,
+    show(
+        out,
         b"  kept block of 46 written, which is used as it is",
         s.write(&[1], &mut output),
     )?;
@@ -334,11 +347,11 @@ fn short_outputs(out: &impl Print) -> io::Result<()> {
     let tag = [0u8; 16];
     let mut output = [0u8; 15];
     show(out, b"  turn to 15 bytes", sealer().turn(&mut output))?;
-    show(out,
+    show(
+        out,
         b"  feed past the output",
         opener(&tag).feed(&p, &mut output),
-    )?;
-    Ok(())
+    )
 }
 
 // Arguments that begin refuses.
@@ -347,19 +360,21 @@ fn refused_begins(out: &impl Print) -> io::Result<()> {
     let header = A2_HEADER;
     let lens = A2_LENS;
     let tag = [0u8; 15];
-    show(out,
+    show(
+        out,
         b"  key of 31 bytes",
         Stream::begin_sealer(&key[0..31], &header, &lens),
     )?;
-    show(out,
+    show(
+        out,
         b"  lengths that do not sum to the header",
         Stream::begin_sealer(&key, &header, &lens[0..2]),
     )?;
-    show(out,
+    show(
+        out,
         b"  tag of 15 bytes",
         Stream::begin_opener(&key, &header, &lens, &tag),
-    )?;
-    Ok(())
+    )
 }
 
 // A.2 sealed by the whole call.
@@ -377,9 +392,15 @@ fn main(rt: HostRuntime) -> io::Result<()> {
     by_pieces(&mut sealed, 7, 30);
     printer::line(&rt, b"A.2 by pieces", &sealed)?;
     whole(&mut sealed);
-    printer::text(&rt, b"pairs of cuts that seal and open as the whole calls: ")?;
+    printer::text(
+        &rt,
+        b"pairs of cuts that seal and open as the whole calls: ",
+    )?;
     printer::number(&rt, count_cuts(&sealed))?;
-    printer::text(&rt, b"bytes of key stream where another plaintext is written: ")?;
+    printer::text(
+        &rt,
+        b"bytes of key stream where another plaintext is written: ",
+    )?;
     printer::number(&rt, rewritten(&sealed))?;
     printer::text(&rt, b"wrong stages\n")?;
     sealer_stages(&rt)?;

@@ -4,9 +4,9 @@
 
 use answers::Answer;
 use head::Head;
+use std::io;
 use stream::{Step, Stream};
 use whole::Report;
-use std::io;
 
 fn state_of(step: Step) -> Stream {
     let s = step.state;
@@ -58,7 +58,7 @@ fn from_head(out: &impl Print, head: Head, number: &[u8], plain: &[u8]) -> io::R
         printer::hex(out, &text)?;
         print_work(out, report.work)?;
     }
-    Ok(()) // LOOK
+    Ok(())
 }
 
 // Prints it sealed by the whole call.
@@ -79,7 +79,7 @@ fn whole(out: &impl Print, key: &[u8], header: &[u8], plain: &[u8]) -> io::Resul
         printer::hex(out, &sealed)?;
         print_work(out, report.work)?;
     }
-    Ok(()) // LOOK
+    Ok(())
 }
 
 // By rule 15.2, the head's work is 2 for L and the CMAC of the zero block, and 2, 1 and 1 for strings of

@@ -5,7 +5,13 @@ use answers::Answer;
 use std::io;
 
 // Prints the blocks of the worst header list, or the number of the refusal.
-fn example(out: &impl Print, label: &[u8], header_len: usize, count: usize, least: usize) -> io::Result<()> {
+fn example(
+    out: &impl Print,
+    label: &[u8],
+    header_len: usize,
+    count: usize,
+    least: usize,
+) -> io::Result<()> {
     let given = worst_header::header_list(header_len, count, least);
     let answer = given.answer;
     printer::text(out, label)?;
