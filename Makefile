@@ -23,10 +23,12 @@ include host/Makefile
 $(SETUPS): setup-%:
 	host/setup.sh $*
 
-# rt ci starts from nothing, and no stamp is trusted after it.
+# No stamp is trusted after rt ci. It passes with edits that are bad, and this does not.
 test: setup-test
 	mkdir -p build
 	rt ci 2>&1 | tee build/ci.log
+	if grep '^rt: ok.*, [1-9][0-9]* bad' build/ci.log; then \
+	    echo 'test: FAILED: an edit in must-fail/ that is bad shows nothing' >&2; exit 1; fi
 	host/archive.sh kinphlor anew
 	host/archive.sh probe anew
 	$(MAKE) --no-print-directory host-test

@@ -11,27 +11,34 @@ fail() {
     exit 1
 }
 
-mkdir -p "$dir/bin" "$dir/a tree/crates/one/src" "$dir/a tree/crates/one/specs" "$dir/a tree/crates/two/proofs/deep"
+mkdir -p "$dir/bin" "$dir/a tree/crates/one/src" "$dir/a tree/crates/one/specs" "$dir/a tree/crates/two/proofs/deep" \
+    "$dir/a tree/crates/three/src"
 cat >"$dir/bin/rt" <<'END'
 #!/bin/sh
 if [ "$1" = version ]; then
     cat version
     exit
 fi
-echo run >>runs
+# An archive is made in its crate's folder.
+crate=$(basename "$PWD")
+cd ../..
+echo "$1 $crate" >>runs
 echo 'a note of the prover'
-echo 'library std: modules loaded=16 checked=0'
+echo 'rt: chose --jobs 2 for one' >&2
+echo 'statements std: modules loaded=16 checked=0'
+echo 'crate one: modules loaded=0 checked=16'
+echo 'logic=proved functions=1'
 if [ -e daemon ]; then sleep 20 >/dev/null 2>&1 & fi
-echo 'rt: one proved (7 s)' >&2
-echo 'rt: three proved (unchanged since it was last proved)' >&2
+echo "crate $crate: modules loaded=0 checked=16"
 if [ -e refuse ]; then
-    echo 'rt: two NOT PROVED (exit 1, 2 s)'
+    echo 'logic=not-proved'
     exit 1
 fi
 if [ -e meanwhile ]; then date +%N >>crates/one/src/lib.rt; fi
-mkdir -p target/staticlib
-echo archive >target/staticlib/libtwo.a
-echo 'rt: target/staticlib/libtwo.a has the functions of two'
+echo 'logic=proved functions=2 target=x86_64-unknown-linux-gnu'
+if [ "$crate" = three ]; then exit; fi
+mkdir -p "crates/$crate/out"
+echo archive >"crates/$crate/out/lib$crate.a"
 END
 chmod +x "$dir/bin/rt"
 PATH=$dir/bin:$PATH
@@ -46,12 +53,13 @@ runs() {
     : >runs
     "$script" two ${3+"$3"} >said 2>&1 || fail "$1: $(cat said)"
     [ "$(wc -l <runs)" = "$2" ] || fail "$1: rt ran $(wc -l <runs) times, expected $2"
+    if grep -vx 'lib two' runs; then fail "$1: rt was asked for something else"; fi
 }
 
 runs 'no archive' 1
-sed 's/two              [0-9] s/two              . s/' said | diff - <(
+sed -E 's/^(  (one|two)              )[0-9] s/\1. s/' said | diff - <(
     echo 'proving two and what it stands on, a few minutes from nothing; notes in build/two.log'
-    echo '  one              7 s'
+    echo '  one              . s'
     echo '  two              . s'
 ) || fail 'another progress'
 grep -qx 'a note of the prover' build/two.log || fail 'the notes are not in the log'
@@ -59,7 +67,9 @@ runs 'nothing changed' 0
 [ ! -s said ] || fail "nothing changed, and it says: $(cat said)"
 touch -d 2001-01-01 crates.txt crates/one/src/lib.rt
 echo x >crates/one/README
-runs 'nothing changed but times, and a file that rt does not prove' 0
+mkdir -p crates/one/out/room/src
+echo x >crates/one/out/room/src/lib.rt
+runs 'nothing changed but times, a file that rt does not prove, and what rt keeps' 0
 
 for file in crates.txt version crates/one/src/lib.rt crates/one/specs/One.antt crates/two/proofs/deep/Two.antt \
     crates/two/proofs/Added.antt target/staticlib/libtwo.a; do
@@ -113,7 +123,7 @@ for wrong in 'two anwe' '' 'two anew anew'; do
     [ "$(cat said)" = 'usage: host/archive.sh NAME [anew]' ] || fail "archive.sh $wrong says: $(cat said)"
 done
 if "$script" three >said 2>&1; then fail 'an archive that rt does not make is taken'; fi
-grep -qx 'kinphlor: rt made no target/staticlib/libthree.a; its notes are in build/three.log' said || fail "$(cat said)"
+grep -qx 'kinphlor: rt made no crates/three/out/libthree.a; its notes are in build/three.log' said || fail "$(cat said)"
 
 cp crates/one/src/lib.rt before
 echo wrong >>crates/one/src/lib.rt
@@ -122,10 +132,18 @@ for how in '' again; do
     if "$script" two >said 2>&1; then fail "rt refuses $how, and archive.sh does not"; fi
     grep -q 'The end of build/two.log' said || fail "a refusal that does not name the log: $(cat said)"
     if grep -q 'modules loaded' said; then fail "a refusal with counts of modules: $(cat said)"; fi
-    grep -qx 'rt: two NOT PROVED (exit 1, 2 s)' said || fail "a refusal that does not show the log: $(cat said)"
+    grep -qx 'logic=not-proved' said || fail "a refusal that does not show the log: $(cat said)"
     [ ! -e target/staticlib/libtwo.a ] || fail "rt refuses $how, and the archive of before is there"
 done
 rm refuse
 mv before crates/one/src/lib.rt
 runs 'rt refused before' 1
+
+# Where the crate is a library, the static library over it makes the archive, under the crate's own name.
+mkdir -p crates/two_c/src
+echo two_c >crates/two_c/src/lib.rt
+: >runs
+"$script" two >said 2>&1 || fail "a static library over two: $(cat said)"
+[ "$(cat runs)" = 'lib two_c' ] || fail "a static library over two: rt is asked for $(cat runs)"
+cmp -s crates/two_c/out/libtwo_c.a target/staticlib/libtwo.a || fail 'the archive is not the one of two_c'
 echo 'archive: rt runs where a source has changed, and only there'

@@ -4,11 +4,12 @@
 # A name that is not on its list fails, and so does one that stands there and is not taken.
 set -eu -o pipefail
 
-# names FILE...: what the files take from other crates, a name a line with its module.
+# names FILE...: what the files take from other crates, a name a line with its module. The kit's Prelude is no crate of ours.
 names() {
-    awk '/^use Rattle·demands·specs\.specs\.[A-Z][A-Za-z]*\.\{[^{}]+\}$/ && !/specs\.Cases\./ { next }
-        /^use Rattle·[^ {}]+\.\{[^{}]+\}$/ {
-            sub(/^use Rattle·/, "")
+    awk '/^use Rattle\.demands\.specs\.[A-Z][A-Za-z]*\.\{[^{}]+\}$/ && !/specs\.Cases\./ { next }
+        /^use Rattle\.std\.specs\.Prelude\.\{[^{}]+\}$/ { next }
+        /^use Rattle\.[^ {}]+\.\{[^{}]+\}$/ {
+            sub(/^use Rattle\./, "")
             module = taken = $0
             sub(/\.\{.*/, "", module)
             sub(/.*\.\{/, "", taken)
@@ -17,7 +18,7 @@ names() {
             next
         }
         /^ *--/ { next }
-        /Rattle·/ { print FILENAME ":" FNR, "another form" }' "$@" | sort -u
+        /Rattle[.·]/ { print FILENAME ":" FNR, "another form" }' "$@" | sort -u
 }
 
 # list: the lines of the standard input that are no headings, one for each name behind a module.
@@ -42,8 +43,8 @@ list >"$scratch/cases" <<'END'
 the standards' functions, and the tail's length
  field.specs.Field mul sbox
  cmac.specs.Cmac double pad
- s2v.specs.S2v xorend tailLength
- counter.specs.Counter initialCounter counterBlock
+ s2v.specs.S2v xorend tail_length
+ counter.specs.Counter initial_counter counter_block
 END
 
 list >"$scratch/statements" <<'END'
@@ -51,20 +52,20 @@ the standards' functions, xors, and the header strings
  octets.specs.Octets xors
  aes.specs.Aes aes
  aes.specs.Cipher cipher
- aes.specs.KeyExpansion keyExpansion
+ aes.specs.KeyExpansion key_expansion
  cmac.specs.Cmac subkeys chain
  header.specs.Header strings
- s2v.specs.S2v absorbStrings headerResult tagFrom
- counter.specs.Counter initialCounter counterBlock
- keystream.specs.KeyStream xorStream
- whole.specs.Siv tagOf streamed sealed opened
+ s2v.specs.S2v absorb_strings header_result tag_from
+ counter.specs.Counter initial_counter counter_block
+ keystream.specs.KeyStream xor_stream
+ whole.specs.Siv tag_of streamed sealed opened
 declared types
  aes.specs.declared.Expansion Expansion
- aes.specs.declared.KeyAnswer.the-variants Expanded Refused
+ aes.specs.declared.KeyAnswer.TheVariants Expanded Refused
  answers.specs.declared.Answer Answer
- answers.specs.declared.Answer.the-variants Ok Refused
- answers.specs.declared.Refusal.the-variants KeyLength HeaderCount HeaderLengths TooLong SealedLength OutputShort
- answers.specs.declared.Refusal.the-variants ScratchShort Forged State EmptyNonce RingLength HeaderPlan
+ answers.specs.declared.Answer.TheVariants Ok Refused
+ answers.specs.declared.Refusal.TheVariants KeyLength HeaderCount HeaderLengths TooLong SealedLength OutputShort
+ answers.specs.declared.Refusal.TheVariants ScratchShort Forged State EmptyNonce RingLength HeaderPlan
  whole.specs.declared.Report Report
  whole.specs.declared.RingAnswer RingAnswer
  head.specs.declared.Head Head
@@ -72,18 +73,18 @@ declared types
  stream.specs.declared.Stream Stream
  stream.specs.declared.Step Step
 the calls' definitions, and what a definition gives
- answers.specs.Answer Outcome outcomeOf
- whole.specs.Calls CallResult sealCall openCall
- whole.specs.Ring RingResult openRing
- whole.specs.Work plannedWork
- head.specs.Head MakeResult makeHead extendHead
- stream.specs.Steps StepResult beginSealer beginOpener beginSealerFrom beginOpenerFrom
- stream.specs.Steps addStep turnStep writeStep closeStep feedStep finishStep
+ answers.specs.Answer Outcome outcome_of
+ whole.specs.Calls CallResult seal_call open_call
+ whole.specs.Ring RingResult open_ring
+ whole.specs.Work planned_work
+ head.specs.Head MakeResult make_head extend_head
+ stream.specs.Steps StepResult begin_sealer begin_opener begin_sealer_from begin_opener_from
+ stream.specs.Steps add_step turn_step write_step close_step feed_step finish_step
  worst_header.specs.WorstHeader GivesWorst
- kinphlor.specs.Interface sealFromC openFromC openRingFromC packed packedRing plannedFromC GivesWorstFromC
+ kinphlor.specs.Interface seal_from_c open_from_c open_ring_from_c packed packed_ring planned_from_c GivesWorstFromC
 the promises, which Promises.antt says in parts, and what they speak of
  octets.specs.Octets Lent
- aes.specs.Aes keyNumber Expands
+ aes.specs.Aes key_number Expands
  whole.specs.Calls Performs
  whole.specs.Ring PerformsRing
  head.specs.Head DidMake

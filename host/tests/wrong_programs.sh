@@ -31,7 +31,7 @@ page() {
     local folder crate crates edit edits
     for folder in crates/*/must-fail; do
         crate=$(basename "$(dirname "$folder")")
-        grep -q "^$crate:" crates.txt || fail "$folder belongs to no crate of crates.txt"
+        grep -q "^$crate\( [^:]*\)\{0,1\}:" crates.txt || fail "$folder belongs to no crate of crates.txt"
     done
     edits=(crates/*/must-fail/*.edit)
     cat <<END
@@ -40,7 +40,7 @@ page() {
 ${#edits[@]} edits of programs and definitions in \`crates/*/must-fail\`, each with one mistake. \`rt ci\` tries each, and
 the prover must refuse it. \`make docs\` writes this page, and \`make test\` compares it with the edits.
 END
-    mapfile -t crates < <(sed -n 's/^\([a-z0-9_]*\):.*/\1/p' crates.txt)
+    mapfile -t crates < <(sed -n 's/^\([a-z0-9_]*\)\( [^:]*\)\{0,1\}:.*/\1/p' crates.txt)
     for crate in "${crates[@]}"; do
         [ -d "crates/$crate/must-fail" ] || continue
         edits=("crates/$crate/must-fail"/*.edit)

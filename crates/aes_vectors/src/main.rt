@@ -8,6 +8,7 @@ ghost use Rattle.aes.specs.Engine.{Ready};
 use aes::{Engine, KeyAnswer};
 use fips197::{A1_KEY, A2_KEY, A3_KEY};
 use octets::Block;
+use std::io;
 
 // Appendix B's input; its key is A.1's.
 const B: Block = [
@@ -26,82 +27,89 @@ const C_KEY: [u8; 40] = [
 ];
 
 // Prints a key's expansion: all 240 bytes, so that the zeros past its own rounds show.
-fn expansion(engine: &Engine, label: &[u8], key: &[u8])
+fn expansion(out: &impl Print, engine: &Engine, label: &[u8], key: &[u8]) -> io::Result<()>
     requires { Ready engine.now }
 {
-    printer::line(label, key);
+    printer::line(out, label, key)?;
     let e = aes::expand(engine, key);
     let keys = e.keys;
-    printer::rows(&keys);
+    printer::rows(out, &keys)
 }
 
 // Prints the cipher of a block under a key, or that the key is refused.
-fn encryption(engine: &Engine, label: &[u8], key: &[u8], block: Block)
+fn encryption(
+    out: &impl Print,
+    engine: &Engine,
+    label: &[u8],
+    key: &[u8],
+    block: Block,
+) -> io::Result<()>
     requires { Ready engine.now }
 {
-    printer::text(label);
+    printer::text(out, label)?;
     let e = aes::expand(engine, key);
     let width = key.len();
     let keys = e.keys;
     let answer = e.answer;
     match answer {
-        KeyAnswer::Refused => printer::line(b" refused: round keys", &keys),
+        KeyAnswer::Refused => printer::line(out, b" refused: round keys", &keys),
         KeyAnswer::Expanded => {
             if width <= 32 {
                 let r = aes::encrypt(engine, width, &keys, block);
                 let b = r.block;
-                printer::line(b"", &b);
+                printer::line(out, b"", &b)?;
             }
+            Ok(())
         }
     }
 }
 
-fn appendix_a(engine: &Engine)
+fn appendix_a(out: &impl Print, engine: &Engine) -> io::Result<()>
     requires { Ready engine.now }
 {
-    expansion(engine, b"A.1", &A1_KEY);
-    expansion(engine, b"A.2", &A2_KEY);
-    expansion(engine, b"A.3", &A3_KEY);
+    expansion(out, engine, b"A.1", &A1_KEY)?;
+    expansion(out, engine, b"A.2", &A2_KEY)?;
+    expansion(out, engine, b"A.3", &A3_KEY)
 }
 
-fn appendix_c(engine: &Engine)
+fn appendix_c(out: &impl Print, engine: &Engine) -> io::Result<()>
     requires { Ready engine.now }
 {
-    encryption(engine, b"C.1", &C_KEY[0..16], C);
-    encryption(engine, b"C.2", &C_KEY[0..24], C);
-    encryption(engine, b"C.3", &C_KEY[0..32], C);
+    encryption(out, engine, b"C.1", &C_KEY[0..16], C)?;
+    encryption(out, engine, b"C.2", &C_KEY[0..24], C)?;
+    encryption(out, engine, b"C.3", &C_KEY[0..32], C)
 }
 
 // A key of n of appendix C's bytes.
-fn key_of(engine: &Engine, label: &[u8], n: usize)
+fn key_of(out: &impl Print, engine: &Engine, label: &[u8], n: usize) -> io::Result<()>
     requires { Ready engine.now × (n ≤ 40) }
 {
-    encryption(engine, label, &C_KEY[0..n], C);
+    encryption(out, engine, label, &C_KEY[0..n], C)
 }
 
-fn refused_short(engine: &Engine)
+fn refused_short(out: &impl Print, engine: &Engine) -> io::Result<()>
     requires { Ready engine.now }
 {
-    key_of(engine, b"0 bytes", 0);
-    key_of(engine, b"15 bytes", 15);
-    key_of(engine, b"17 bytes", 17);
-    key_of(engine, b"23 bytes", 23);
+    key_of(out, engine, b"0 bytes", 0)?;
+    key_of(out, engine, b"15 bytes", 15)?;
+    key_of(out, engine, b"17 bytes", 17)?;
+    key_of(out, engine, b"23 bytes", 23)
 }
 
-fn refused_long(engine: &Engine)
+fn refused_long(out: &impl Print, engine: &Engine) -> io::Result<()>
     requires { Ready engine.now }
 {
-    key_of(engine, b"25 bytes", 25);
-    key_of(engine, b"28 bytes", 28);
-    key_of(engine, b"31 bytes", 31);
-    key_of(engine, b"33 bytes", 33);
+    key_of(out, engine, b"25 bytes", 25)?;
+    key_of(out, engine, b"28 bytes", 28)?;
+    key_of(out, engine, b"31 bytes", 31)?;
+    key_of(out, engine, b"33 bytes", 33)
 }
 
-fn main() {
+fn main(rt: HostRuntime) -> io::Result<()> {
     let engine = aes::engine();
-    appendix_a(&engine);
-    encryption(&engine, b"B", &A1_KEY, B);
-    appendix_c(&engine);
-    refused_short(&engine);
-    refused_long(&engine);
+    appendix_a(&rt, &engine)?;
+    encryption(&rt, &engine, b"B", &A1_KEY, B)?;
+    appendix_c(&rt, &engine)?;
+    refused_short(&rt, &engine)?;
+    refused_long(&rt, &engine)
 }

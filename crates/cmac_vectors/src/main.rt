@@ -7,6 +7,7 @@ ghost use Rattle.aes.specs.Engine.{Ready, CanEncrypt};
 use aes::{Engine, RoundKeys};
 use cmac::Subkeys;
 use fips197::{A1_KEY, A2_KEY, A3_KEY};
+use std::io;
 
 // The longest message, of which the others are the first bytes.
 const MESSAGE: [u8; 64] = [
@@ -17,36 +18,50 @@ const MESSAGE: [u8; 64] = [
 ];
 
 // Prints the tag of the first n bytes of the message.
-fn tag(engine: &Engine, width: usize, keys: &RoundKeys, k: Subkeys, label: &[u8], n: usize)
+fn tag(
+    out: &impl Print,
+    engine: &Engine,
+    width: usize,
+    keys: &RoundKeys,
+    k: Subkeys,
+    label: &[u8],
+    n: usize,
+) -> io::Result<()>
     requires { CanEncrypt engine.now width × (n ≤ 64) }
 {
     let mac = cmac::cmac_from(engine, width, keys, k, [0u8; 16], &MESSAGE[0..n]);
     let t = mac.block;
-    printer::line(label, &t);
+    printer::line(out, label, &t)
 }
 
 // Prints the subkeys.
-fn print_subkeys(k: Subkeys) {
+fn print_subkeys(out: &impl Print, k: Subkeys) -> io::Result<()> {
     let k1 = k.k1;
     let k2 = k.k2;
-    printer::line(b"    K1", &k1);
-    printer::line(b"    K2", &k2);
+    printer::line(out, b"    K1", &k1)?;
+    printer::line(out, b"    K2", &k2)
 }
 
-fn tags(engine: &Engine, width: usize, keys: &RoundKeys, k: Subkeys)
+fn tags(
+    out: &impl Print,
+    engine: &Engine,
+    width: usize,
+    keys: &RoundKeys,
+    k: Subkeys,
+) -> io::Result<()>
     requires { CanEncrypt engine.now width }
 {
-    tag(engine, width, keys, k, b"     0", 0);
-    tag(engine, width, keys, k, b"    16", 16);
-    tag(engine, width, keys, k, b"    40", 40);
-    tag(engine, width, keys, k, b"    64", 64);
+    tag(out, engine, width, keys, k, b"     0", 0)?;
+    tag(out, engine, width, keys, k, b"    16", 16)?;
+    tag(out, engine, width, keys, k, b"    40", 40)?;
+    tag(out, engine, width, keys, k, b"    64", 64)
 }
 
 // Prints the examples of one key.
-fn examples(engine: &Engine, label: &[u8], key: &[u8])
+fn examples(out: &impl Print, engine: &Engine, label: &[u8], key: &[u8]) -> io::Result<()>
     requires { Ready engine.now }
 {
-    printer::line(label, key);
+    printer::line(out, label, key)?;
     let width = key.len();
     let e = aes::expand(engine, key);
     let keys = e.keys;
@@ -54,14 +69,15 @@ fn examples(engine: &Engine, label: &[u8], key: &[u8])
         let zero = cmac::zero_cipher(engine, width, &keys);
         let l = zero.block;
         let k = cmac::make_subkeys(l);
-        print_subkeys(k);
-        tags(engine, width, &keys, k);
+        print_subkeys(out, k)?;
+        tags(out, engine, width, &keys, k)?;
     }
+    Ok(())
 }
 
-fn main() {
+fn main(rt: HostRuntime) -> io::Result<()> {
     let engine = aes::engine();
-    examples(&engine, b"AES-128", &A1_KEY);
-    examples(&engine, b"AES-192", &A2_KEY);
-    examples(&engine, b"AES-256", &A3_KEY);
+    examples(&rt, &engine, b"AES-128", &A1_KEY)?;
+    examples(&rt, &engine, b"AES-192", &A2_KEY)?;
+    examples(&rt, &engine, b"AES-256", &A3_KEY)
 }

@@ -1,4 +1,4 @@
-// The C interface: whole sealing and opening over byte slices, and opening under a ring of keys,
+// The C interface, which kinphlor_c exports: whole sealing and opening over byte slices, and opening under a ring of keys,
 // with associated data and nonce as the header list; their work, planned from lengths; and the worst header list.
 #![tactic(auto)]
 
@@ -32,8 +32,7 @@ fn empty_nonce(key_len: usize, nonce_len: u32) -> bool
 }
 
 // Seals: header is the associated data and then the nonce.
-#[unsafe(no_mangle)]
-pub extern "C" fn kinphlor_seal(
+pub fn kinphlor_seal(
     key: &[u8],
     header: &[u8],
     ad_len: u32,
@@ -54,8 +53,7 @@ pub extern "C" fn kinphlor_seal(
 }
 
 // Opens what kinphlor_seal sealed.
-#[unsafe(no_mangle)]
-pub extern "C" fn kinphlor_open(
+pub fn kinphlor_open(
     key: &[u8],
     header: &[u8],
     ad_len: u32,
@@ -95,8 +93,7 @@ fn empty_nonce_ring(key_len: usize, ring_len: usize, nonce_len: u32) -> bool
 }
 
 // Opens what kinphlor_seal sealed, under the first key of a ring that opens it.
-#[unsafe(no_mangle)]
-pub extern "C" fn kinphlor_open_ring(
+pub fn kinphlor_open_ring(
     key_len: usize,
     ring: &[u8],
     header: &[u8],
@@ -117,8 +114,7 @@ pub extern "C" fn kinphlor_open_ring(
 
 // For planning, from lengths alone: how many blocks go through the cipher to seal n bytes, or to open what that gives,
 // with associated data and nonce of these lengths. 0 for an empty nonce and for n over the limit.
-#[unsafe(no_mangle)]
-pub extern "C" fn kinphlor_planned_work(ad_len: u32, nonce_len: u32, n: usize) -> u64
+pub fn kinphlor_planned_work(ad_len: u32, nonce_len: u32, n: usize) -> u64
     ensures { result ≡ planned_from_c ad_len nonce_len n }
 {
     if nonce_len == 0 {
@@ -131,8 +127,7 @@ pub extern "C" fn kinphlor_planned_work(ad_len: u32, nonce_len: u32, n: usize) -
 // The worst header list, to the lent places: of all lists of count lengths that sum to header_len,
 // none under the least, one whose strings have the most blocks.
 // The number is the answer's times 2 to the power 32, plus these blocks; after 12 places and blocks are zero.
-#[unsafe(no_mangle)]
-pub extern "C" fn kinphlor_worst_header(
+pub fn kinphlor_worst_header(
     header_len: usize,
     count: usize,
     least: usize,

@@ -1,47 +1,47 @@
 // Text and bytes in hexadecimal on standard output, for the programs that run test vectors.
 #![tactic(auto)]
 
-use libc::STDOUT_FILENO;
+use std::io;
 
 // Writes text as it is.
-pub fn text(t: &[u8]) {
-    io::write_all(STDOUT_FILENO, t);
+pub fn text(out: &impl Print, t: &[u8]) -> io::Result<()> {
+    out.write_all(t)
 }
 
 // Writes bytes in hexadecimal, two digits each.
-pub fn hex(bytes: &[u8]) {
+pub fn hex(out: &impl Print, bytes: &[u8]) -> io::Result<()> {
     let mut i = 0;
     while i < bytes.len() {
         let b = bytes[i];
-        io::print_hex(STDOUT_FILENO, b as u64, 2);
+        print!(out; "{b:02x}")?;
         i += 1;
     }
+    Ok(())
 }
 
 // Writes a label, a space, bytes in hexadecimal and a line end.
-pub fn line(label: &[u8], bytes: &[u8]) {
-    text(label);
-    text(b" ");
-    hex(bytes);
-    text(b"\n");
+pub fn line(out: &impl Print, label: &[u8], bytes: &[u8]) -> io::Result<()> {
+    text(out, label)?;
+    text(out, b" ")?;
+    hex(out, bytes)?;
+    text(out, b"\n")
 }
 
-fn row(bytes: &[u8]) {
-    line(b"   ", bytes);
+fn row(out: &impl Print, bytes: &[u8]) -> io::Result<()> {
+    line(out, b"   ", bytes)
 }
 
 // Writes bytes in hexadecimal, sixteen to a line.
-pub fn rows(bytes: &[u8]) {
+pub fn rows(out: &impl Print, bytes: &[u8]) -> io::Result<()> {
     let mut rest = bytes;
     while 16 < rest.len() {
-        row(&rest[0..16]);
+        row(out, &rest[0..16])?;
         rest = &rest[16..];
     }
-    row(rest);
+    row(out, rest)
 }
 
 // Writes a number in decimal and a line end.
-pub fn number(n: usize) {
-    io::print_decimal(STDOUT_FILENO, n as u64);
-    text(b"\n");
+pub fn number(out: &impl Print, n: usize) -> io::Result<()> {
+    println!(out; "{n}")
 }

@@ -6,6 +6,7 @@ ghost use Rattle.std.specs.Prelude.{◌≤◌, ◌<◌, length};
 
 use answers::{Answer, Refusal};
 use rfc5297::{A1_AD, A1_KEY, A1_LENS, A1_PLAINTEXT, A2_HEADER, A2_KEY, A2_LENS, A2_PLAINTEXT};
+use std::io;
 
 // Whether all bytes are zero.
 fn zeros(s: &[u8]) -> bool {
@@ -63,55 +64,91 @@ fn count_refused(key: &[u8], header: &[u8], lens: &[u32], sealed: &[u8]) -> usiz
 }
 
 // Prints what opening gives under a key.
-fn by_key(key: &[u8], header: &[u8], lens: &[u32], sealed: &[u8])
+fn by_key(
+    out: &impl Print,
+    key: &[u8],
+    header: &[u8],
+    lens: &[u32],
+    sealed: &[u8],
+) -> io::Result<()>
     requires { (16 ≤ length sealed.now) × (length sealed.now ≤ 64) }
 {
     let mut output = [0u8; 64];
     let mut scratch = [0u8; 64];
     siv::open(key, header, lens, sealed, &mut output, &mut scratch);
-    printer::line(b"    opened", &output[0..sealed.len() - 16]);
+    printer::line(out, b"    opened", &output[0..sealed.len() - 16])
 }
 
 // Prints what opening gives under a ring of keys of 32 bytes, and the slot.
-fn by_ring(ring: &[u8], header: &[u8], lens: &[u32], sealed: &[u8])
+fn by_ring(
+    out: &impl Print,
+    ring: &[u8],
+    header: &[u8],
+    lens: &[u32],
+    sealed: &[u8],
+) -> io::Result<()>
     requires { (16 ≤ length sealed.now) × (length sealed.now ≤ 64) }
 {
     let mut output = [0u8; 64];
     let mut scratch = [0u8; 64];
     let opened = ring::open_ring(32, ring, header, lens, sealed, &mut output, &mut scratch);
-    printer::line(b"    opened by the ring", &output[0..sealed.len() - 16]);
-    printer::text(b"    by the key in slot ");
-    printer::number(opened.slot);
+    printer::line(
+        out,
+        b"    opened by the ring",
+        &output[0..sealed.len() - 16],
+    )?;
+    printer::text(out, b"    by the key in slot ")?;
+    printer::number(out, opened.slot)
 }
 
 // Prints what sealing and opening give, and how many changed bytes are refused.
-fn example(label: &[u8], key: &[u8], ring: &[u8], header: &[u8], lens: &[u32], p: &[u8])
+fn example(
+    out: &impl Print,
+    label: &[u8],
+    key: &[u8],
+    ring: &[u8],
+    header: &[u8],
+    lens: &[u32],
+    p: &[u8],
+) -> io::Result<()>
     requires { length p.now ≤ 48 }
 {
     let n = p.len() + 16;
     let mut sealed = [0u8; 64];
     let mut scratch = [0u8; 64];
-    printer::text(label);
+    printer::text(out, label)?;
     siv::seal(key, header, lens, p, &mut sealed, &mut scratch);
-    printer::line(b"    sealed", &sealed[0..n]);
-    by_key(key, header, lens, &sealed[0..n]);
-    by_ring(ring, header, lens, &sealed[0..n]);
+    printer::line(out, b"    sealed", &sealed[0..n])?;
+    by_key(out, key, header, lens, &sealed[0..n])?;
+    by_ring(out, ring, header, lens, &sealed[0..n])?;
     let count = count_refused(key, header, lens, &sealed[0..n]);
-    printer::text(b"    bytes that were changed and refused, their place wiped: ");
-    printer::number(count);
+    printer::text(
+        out,
+        b"    bytes that were changed and refused, their place wiped: ",
+    )?;
+    printer::number(out, count)
 }
 
-fn main() {
+fn main(rt: HostRuntime) -> io::Result<()> {
     let mut ring = [0u8; 64];
     octets::copy_at(&mut ring, 0, &A1_KEY);
     octets::copy_at(&mut ring, 32, &A2_KEY);
-    example(b"A.1\n", &A1_KEY, &ring, &A1_AD, &A1_LENS, &A1_PLAINTEXT);
     example(
+        &rt,
+        b"A.1\n",
+        &A1_KEY,
+        &ring,
+        &A1_AD,
+        &A1_LENS,
+        &A1_PLAINTEXT,
+    )?;
+    example(
+        &rt,
         b"A.2\n",
         &A2_KEY,
         &ring,
         &A2_HEADER,
         &A2_LENS,
         &A2_PLAINTEXT,
-    );
+    )
 }

@@ -4,6 +4,7 @@ ghost use Rattle.std.specs.Prelude.{◌≤◌, length};
 use crate::{opened, show, show_answer, state_of, write_at};
 use head::{Head, Made};
 use rfc5297::{A2_HEADER, A2_KEY, A2_LENS, A2_PLAINTEXT};
+use std::io;
 use stream::{Step, Stream};
 
 // Where the first n of A.2's three strings end.
@@ -28,9 +29,9 @@ fn head_in(made: Made) -> Head {
 }
 
 // Prints a label and the number of making's answer.
-fn show_made(label: &[u8], made: Made) {
+fn show_made(out: &impl Print, label: &[u8], made: Made) -> io::Result<()> {
     let answer = made.answer;
-    show_answer(label, answer);
+    show_answer(out, label, answer)
 }
 
 // A sealer's begin.
@@ -86,81 +87,96 @@ fn opens_from(n: usize, sealed: &[u8]) -> bool
 }
 
 // Prints A.2 sealed from a head of n strings, and whether it opens from there.
-fn by_head(n: usize)
+fn by_head(out: &impl Print, n: usize) -> io::Result<()>
     requires { n ≤ 3 }
 {
     let mut sealed = [0u8; 63];
     seal_from(n, &mut sealed);
-    printer::line(b" ", &sealed);
+    printer::line(out, b" ", &sealed)?;
     if opens_from(n, &sealed) {
-        printer::text(b"  opened\n");
+        printer::text(out, b"  opened\n")?;
     }
+    Ok(())
 }
 
 // Arguments that make and extend refuse.
-fn refused_heads() {
+fn refused_heads(out: &impl Print) -> io::Result<()> {
     let key = A2_KEY;
     let header = A2_HEADER;
     let lens = A2_LENS;
     let empty = [0u32; 127];
     show_made(
+        out,
         b"  key of 31 bytes",
         Head::make(&key[0..31], &header, &lens),
-    );
-    show_made(b"  127 strings", Head::make(&key, &[], &empty));
+    )?;
+    show_made(out, b"  127 strings", Head::make(&key, &[], &empty))?;
     show_made(
+        out,
         b"  lengths that do not sum to the header",
         Head::make(&key, &header, &lens[0..2]),
-    );
+    )?;
     show_made(
+        out,
         b"  126 strings behind one",
         head_of(1).extend(&[], &empty[0..126]),
-    );
+    )
 }
 
 // Heads that no call gives: the two things that 9 judges, and one that is used as it is.
-fn spoiled_heads() {
+fn spoiled_heads(out: &impl Print) -> io::Result<()> {
     let mut h = head_of(3);
     h.width = 20;
-    show(b"  key width 20", begin(h, &[], &[]));
+    show(out, b"  key width 20", begin(h, &[], &[]))?;
     let mut h = head_of(3);
     h.count = 127;
-    show(b"  127 strings in the head", begin(h, &[], &[]));
+    show(out, b"  127 strings in the head", begin(h, &[], &[]))?;
     let mut h = head_of(3);
     h.d = [0xffu8; 16];
-    show(b"  another D, which is used as it is", begin(h, &[], &[]));
+    show(
+        out,
+        b"  another D, which is used as it is",
+        begin(h, &[], &[]),
+    )
 }
 
 // Strings behind a head up to the bound and past it, and a rest and a tag that begin refuses.
-fn rests() {
+fn rests(out: &impl Print) -> io::Result<()> {
     let empty = [0u32; 126];
     let tag = [0u8; 15];
-    show(b"  126 strings behind one", begin(head_of(1), &[], &empty));
     show(
+        out,
+        b"  126 strings behind one",
+        begin(head_of(1), &[], &empty),
+    )?;
+    show(
+        out,
         b"  125 strings behind one",
         begin(head_of(1), &[], &empty[0..125]),
-    );
+    )?;
     show(
+        out,
         b"  lengths that do not sum to the rest",
         begin(head_of(1), &tag, &[10]),
-    );
+    )?;
     show(
+        out,
         b"  tag of 15 bytes",
         Stream::begin_opener_from(head_of(3), &[], &[], &tag),
-    );
+    )
 }
 
 // Prints A.2 from heads, and what is refused.
-pub(crate) fn run() {
-    printer::text(b"A.2 from heads of 0 to 3 strings\n");
-    by_head(0);
-    by_head(1);
-    by_head(2);
-    by_head(3);
-    printer::text(b"refused heads\n");
-    refused_heads();
-    printer::text(b"spoiled heads\n");
-    spoiled_heads();
-    printer::text(b"begins from a head\n");
-    rests();
+pub(crate) fn run(out: &impl Print) -> io::Result<()> {
+    printer::text(out, b"A.2 from heads of 0 to 3 strings\n")?;
+    by_head(out, 0)?;
+    by_head(out, 1)?;
+    by_head(out, 2)?;
+    by_head(out, 3)?;
+    printer::text(out, b"refused heads\n")?;
+    refused_heads(out)?;
+    printer::text(out, b"spoiled heads\n")?;
+    spoiled_heads(out)?;
+    printer::text(out, b"begins from a head\n")?;
+    rests(out)
 }

@@ -8,6 +8,7 @@ ghost use Rattle.std.specs.Prelude.{◌+◌, ◌≤◌, ◌<◌, length};
 
 use answers::Answer;
 use rfc5297::{A2_HEADER, A2_KEY, A2_LENS, A2_PLAINTEXT};
+use std::io;
 use stream::{Step, Stream};
 
 pub(crate) fn state_of(step: Step) -> Stream {
@@ -16,16 +17,16 @@ pub(crate) fn state_of(step: Step) -> Stream {
 }
 
 // Prints a label and the number of a step's answer.
-pub(crate) fn show(label: &[u8], step: Step) {
+pub(crate) fn show(out: &impl Print, label: &[u8], step: Step) -> io::Result<()> {
     let answer = step.answer;
-    show_answer(label, answer);
+    show_answer(out, label, answer)
 }
 
 // Prints a label and an answer's number.
-pub(crate) fn show_answer(label: &[u8], answer: Answer) {
-    printer::text(label);
-    printer::text(b": ");
-    printer::number((kinphlor::pack(answer) / 4294967296) as usize);
+pub(crate) fn show_answer(out: &impl Print, label: &[u8], answer: Answer) -> io::Result<()> {
+    printer::text(out, label)?;
+    printer::text(out, b": ")?;
+    printer::number(out, (kinphlor::pack(answer) / 4294967296) as usize)
 }
 
 // A sealer's state for A.2.
@@ -207,156 +208,173 @@ fn rewritten(sealed: &[u8]) -> usize
 }
 
 // Calls in stages of a sealer that they do not want.
-fn sealer_stages() {
+fn sealer_stages(out: &impl Print) -> io::Result<()> {
     let p = A2_PLAINTEXT;
     let mut output = [0u8; 63];
     let adding = state_of(sealer().add(&p));
-    show(b"  write before turn", adding.write(&p, &mut output));
-    show(b"  close before turn", adding.close());
-    show(b"  feed to a sealer", adding.feed(&p, &mut output));
-    show(b"  finish of a sealer", adding.finish(&mut output));
+    show(out, b"  write before turn", adding.write(&p, &mut output))?;
+    show(out, b"  close before turn", adding.close())?;
+    show(out, b"  feed to a sealer", adding.feed(&p, &mut output))?;
+    show(out, b"  finish of a sealer", adding.finish(&mut output))?;
     let writing = state_of(adding.turn(&mut output));
-    show(b"  add after turn", writing.add(&p));
-    show(b"  turn again", writing.turn(&mut output));
-    show(b"  close before all is written", writing.close());
+    show(out, b"  add after turn", writing.add(&p))?;
+    show(out, b"  turn again", writing.turn(&mut output))?;
+    show(out, b"  close before all is written", writing.close())
 }
 
 // The sealer's calls on an opener.
-fn opener_stages() {
+fn opener_stages(out: &impl Print) -> io::Result<()> {
     let p = A2_PLAINTEXT;
     let tag = [0u8; 16];
     let mut output = [0u8; 63];
     let feeding = opener(&tag);
-    show(b"  add to an opener", feeding.add(&p));
-    show(b"  turn of an opener", feeding.turn(&mut output));
-    show(b"  write of an opener", feeding.write(&p, &mut output));
-    show(b"  close of an opener", feeding.close());
+    show(out, b"  add to an opener", feeding.add(&p))?;
+    show(out, b"  turn of an opener", feeding.turn(&mut output))?;
+    show(out, b"  write of an opener", feeding.write(&p, &mut output))?;
+    show(out, b"  close of an opener", feeding.close())
 }
 
 // Calls after a sealer's end.
-fn closed() {
+fn closed(out: &impl Print) -> io::Result<()> {
     let p = A2_PLAINTEXT;
     let mut output = [0u8; 63];
     let writing = state_of(state_of(sealer().add(&p)).turn(&mut output));
     let written = state_of(writing.write(&p, &mut output));
-    show(b"  close", written.close());
+    show(out, b"  close", written.close())?;
     let closed = state_of(written.close());
-    show(b"  add after close", closed.add(&p));
-    show(b"  close again", closed.close());
+    show(out, b"  add after close", closed.add(&p))?;
+    show(out, b"  close again", closed.close())
 }
 
 // Calls after an opener's end.
-fn finished(sealed: &[u8])
+fn finished(out: &impl Print, sealed: &[u8]) -> io::Result<()>
     requires { (length sealed.now ≤ 63) × (63 ≤ length sealed.now) }
 {
     let mut plain = [0u8; 47];
     let fed = feed_at(opener_of(sealed), sealed, 16, 62, &mut plain);
-    show(b"  finish before the last byte", fed.finish(&mut plain));
+    show(
+        out,
+        b"  finish before the last byte",
+        fed.finish(&mut plain),
+    )?;
     let finished = state_of(fed.finish(&mut plain));
-    show(b"  feed after finish", finished.feed(sealed, &mut plain));
-    show(b"  finish again", finished.finish(&mut plain));
+    show(
+        out,
+        b"  feed after finish",
+        finished.feed(sealed, &mut plain),
+    )?;
+    show(out, b"  finish again", finished.finish(&mut plain))
 }
 
 // States that no begin and no call gives: each of the things that 9 judges.
-fn spoiled() {
+fn spoiled(out: &impl Print) -> io::Result<()> {
     let p = A2_PLAINTEXT;
     let mut output = [0u8; 63];
     let mut s = sealer();
     s.stage = 4;
-    show(b"  stage 4", s.add(&p));
+    show(out, b"  stage 4", s.add(&p))?;
     let mut s = sealer();
     s.width = 20;
-    show(b"  key width 20", s.add(&p));
+    show(out, b"  key width 20", s.add(&p))?;
     let mut s = sealer();
     s.total = 1048577;
     s.tail_len = 17;
-    show(b"  total over the limit", s.add(&p));
+    show(out, b"  total over the limit", s.add(&p))?;
     let mut s = sealer();
     s.written = 1;
-    show(b"  written in stage 1", s.turn(&mut output));
+    show(out, b"  written in stage 1", s.turn(&mut output))?;
     let mut s = state_of(state_of(sealer().add(&p)).turn(&mut output));
     s.written = 48;
-    show(b"  written over total", s.write(&p, &mut output));
+    show(out, b"  written over total", s.write(&p, &mut output))?;
     let mut s = sealer();
     s.tail_len = 16;
-    show(b"  tail length 16 of no bytes", s.add(&p));
+    show(out, b"  tail length 16 of no bytes", s.add(&p))?;
     let mut s = sealer();
     let mut tail = s.tail;
     tail[0] = 1;
     s.tail = tail;
-    show(b"  unused tail byte", s.add(&p));
+    show(out, b"  unused tail byte", s.add(&p))?;
     let mut s = sealer();
     s.d = [0xffu8; 16];
-    show(b"  another D, which is used as it is", s.add(&p));
+    show(out, b"  another D, which is used as it is", s.add(&p))
 }
 
 // A kept block where the key stream is at a block's start, in each stage; and one where it is not.
-fn kept_blocks() {
+fn kept_blocks(out: &impl Print) -> io::Result<()> {
     let p = A2_PLAINTEXT;
     let tag = [0u8; 16];
     let mut output = [0u8; 63];
     let mut s = state_of(sealer().add(&p));
     s.kept = [0xffu8; 16];
-    show(b"  kept block in stage 1", s.turn(&mut output));
+    show(out, b"  kept block in stage 1", s.turn(&mut output))?;
     let mut s = state_of(state_of(sealer().add(&p)).turn(&mut output));
     s.kept = [0xffu8; 16];
-    show(b"  kept block of none written", s.write(&p, &mut output));
+    show(
+        out,
+        b"  kept block of none written",
+        s.write(&p, &mut output),
+    )?;
     s.written = 46;
     show(
+        out,
         b"  kept block of 46 written, which is used as it is",
         s.write(&[1], &mut output),
-    );
-    printer::line(b"  01 under it", &output[0..1]);
+    )?;
+    printer::line(out, b"  01 under it", &output[0..1])?;
     let mut s = opener(&tag);
     s.kept = [0xffu8; 16];
-    show(b"  kept block of none fed", s.feed(&p, &mut output));
+    show(out, b"  kept block of none fed", s.feed(&p, &mut output))
 }
 
 // Pieces past the limit.
-fn limits() {
+fn limits(out: &impl Print) -> io::Result<()> {
     let p = A2_PLAINTEXT;
     let mut s = sealer();
     s.total = 1048529;
     s.tail_len = 17;
-    show(b"  47 bytes more than 1,048,529", s.add(&p));
+    show(out, b"  47 bytes more than 1,048,529", s.add(&p))?;
     s.total = 1048530;
     s.tail_len = 18;
-    show(b"  47 bytes more than 1,048,530", s.add(&p));
+    show(out, b"  47 bytes more than 1,048,530", s.add(&p))?;
     let mut output = [0u8; 16];
     let writing = state_of(sealer().turn(&mut output));
-    show(b"  write beyond total", writing.write(&p, &mut output));
+    show(out, b"  write beyond total", writing.write(&p, &mut output))
 }
 
 // Outputs too short.
-fn short_outputs() {
+fn short_outputs(out: &impl Print) -> io::Result<()> {
     let p = A2_PLAINTEXT;
     let tag = [0u8; 16];
     let mut output = [0u8; 15];
-    show(b"  turn to 15 bytes", sealer().turn(&mut output));
+    show(out, b"  turn to 15 bytes", sealer().turn(&mut output))?;
     show(
+        out,
         b"  feed past the output",
         opener(&tag).feed(&p, &mut output),
-    );
+    )
 }
 
 // Arguments that begin refuses.
-fn refused_begins() {
+fn refused_begins(out: &impl Print) -> io::Result<()> {
     let key = A2_KEY;
     let header = A2_HEADER;
     let lens = A2_LENS;
     let tag = [0u8; 15];
     show(
+        out,
         b"  key of 31 bytes",
         Stream::begin_sealer(&key[0..31], &header, &lens),
-    );
+    )?;
     show(
+        out,
         b"  lengths that do not sum to the header",
         Stream::begin_sealer(&key, &header, &lens[0..2]),
-    );
+    )?;
     show(
+        out,
         b"  tag of 15 bytes",
         Stream::begin_opener(&key, &header, &lens, &tag),
-    );
+    )
 }
 
 // A.2 sealed by the whole call.
@@ -369,27 +387,33 @@ fn whole(sealed: &mut [u8]) {
     siv::seal(&key, &header, &lens, &p, sealed, &mut scratch);
 }
 
-fn main() {
+fn main(rt: HostRuntime) -> io::Result<()> {
     let mut sealed = [0u8; 63];
     by_pieces(&mut sealed, 7, 30);
-    printer::line(b"A.2 by pieces", &sealed);
+    printer::line(&rt, b"A.2 by pieces", &sealed)?;
     whole(&mut sealed);
-    printer::text(b"pairs of cuts that seal and open as the whole calls: ");
-    printer::number(count_cuts(&sealed));
-    printer::text(b"bytes of key stream where another plaintext is written: ");
-    printer::number(rewritten(&sealed));
-    printer::text(b"wrong stages\n");
-    sealer_stages();
-    opener_stages();
-    printer::text(b"the end\n");
-    closed();
-    finished(&sealed);
-    printer::text(b"spoiled states\n");
-    spoiled();
-    kept_blocks();
-    printer::text(b"limits\n");
-    limits();
-    short_outputs();
-    refused_begins();
-    heads::run();
+    printer::text(
+        &rt,
+        b"pairs of cuts that seal and open as the whole calls: ",
+    )?;
+    printer::number(&rt, count_cuts(&sealed))?;
+    printer::text(
+        &rt,
+        b"bytes of key stream where another plaintext is written: ",
+    )?;
+    printer::number(&rt, rewritten(&sealed))?;
+    printer::text(&rt, b"wrong stages\n")?;
+    sealer_stages(&rt)?;
+    opener_stages(&rt)?;
+    printer::text(&rt, b"the end\n")?;
+    closed(&rt)?;
+    finished(&rt, &sealed)?;
+    printer::text(&rt, b"spoiled states\n")?;
+    spoiled(&rt)?;
+    kept_blocks(&rt)?;
+    printer::text(&rt, b"limits\n")?;
+    limits(&rt)?;
+    short_outputs(&rt)?;
+    refused_begins(&rt)?;
+    heads::run(&rt)
 }

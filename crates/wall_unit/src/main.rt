@@ -4,6 +4,7 @@
 
 use answers::Answer;
 use head::Head;
+use std::io;
 use stream::{Step, Stream};
 use whole::Report;
 
@@ -39,28 +40,29 @@ fn seal(head: Head, number: &[u8], plain: &[u8], tag: &mut [u8], text: &mut [u8]
 }
 
 // Ends a line with a call's work.
-fn print_work(blocks: usize) {
-    printer::text(b", blocks: ");
-    printer::number(blocks);
+fn print_work(out: &impl Print, blocks: usize) -> io::Result<()> {
+    printer::text(out, b", blocks: ")?;
+    printer::number(out, blocks)
 }
 
 // Prints a record sealed from the head, if no call was refused.
-fn from_head(head: Head, number: &[u8], plain: &[u8]) {
+fn from_head(out: &impl Print, head: Head, number: &[u8], plain: &[u8]) -> io::Result<()> {
     let mut tag = [0u8; 16];
     let mut text = [0u8; 40];
     let report = seal(head, number, plain, &mut tag, &mut text);
     let answer = report.answer;
     if let Answer::Ok(_) = answer {
-        printer::text(number);
-        printer::text(b" ");
-        printer::hex(&tag);
-        printer::hex(&text);
-        print_work(report.work);
+        printer::text(out, number)?;
+        printer::text(out, b" ")?;
+        printer::hex(out, &tag)?;
+        printer::hex(out, &text)?;
+        print_work(out, report.work)?;
     }
+    Ok(())
 }
 
 // Prints it sealed by the whole call.
-fn whole(key: &[u8], header: &[u8], plain: &[u8]) {
+fn whole(out: &impl Print, key: &[u8], header: &[u8], plain: &[u8]) -> io::Result<()> {
     let mut sealed = [0u8; 56];
     let mut scratch = [0u8; 40];
     let report = siv::seal(
@@ -73,26 +75,27 @@ fn whole(key: &[u8], header: &[u8], plain: &[u8]) {
     );
     let answer = report.answer;
     if let Answer::Ok(_) = answer {
-        printer::text(b"   whole ");
-        printer::hex(&sealed);
-        print_work(report.work);
+        printer::text(out, b"   whole ")?;
+        printer::hex(out, &sealed)?;
+        print_work(out, report.work)?;
     }
+    Ok(())
 }
 
 // By rule 15.2, the head's work is 2 for L and the CMAC of the zero block, and 2, 1 and 1 for strings of
 // 18, 6 and 6 bytes: 6. A record's from the head is 1 for its number, and for 40 bytes of plaintext 3 and,
 // as key stream, 3 again: 7. The whole call's is both: 13.
-fn main() {
+fn main(rt: HostRuntime) -> io::Result<()> {
     let key = b"a key for show, not for real use";
     let plain = b"descent 1204: 14.2 m, brake at 61 C, ok.";
     let made = Head::make(key, b"Boulder Hall NorthWall 3Lane 7", &[18, 6, 6]);
     let head = made.head;
-    printer::text(b"the head");
-    print_work(made.work);
-    from_head(head, b"no. 0001", plain);
-    whole(key, b"Boulder Hall NorthWall 3Lane 7no. 0001", plain);
-    from_head(head, b"no. 0002", plain);
-    whole(key, b"Boulder Hall NorthWall 3Lane 7no. 0002", plain);
-    from_head(head, b"no. 0003", plain);
-    whole(key, b"Boulder Hall NorthWall 3Lane 7no. 0003", plain);
+    printer::text(&rt, b"the head")?;
+    print_work(&rt, made.work)?;
+    from_head(&rt, head, b"no. 0001", plain)?;
+    whole(&rt, key, b"Boulder Hall NorthWall 3Lane 7no. 0001", plain)?;
+    from_head(&rt, head, b"no. 0002", plain)?;
+    whole(&rt, key, b"Boulder Hall NorthWall 3Lane 7no. 0002", plain)?;
+    from_head(&rt, head, b"no. 0003", plain)?;
+    whole(&rt, key, b"Boulder Hall NorthWall 3Lane 7no. 0003", plain)
 }
