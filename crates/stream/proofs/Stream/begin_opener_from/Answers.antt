@@ -2,7 +2,7 @@
 -- Assumes nothing.
 use mathlib.Core.Path.{◌≡◌, refl, sym, ◌∙◌}
 use lib.ListN.{length}
-use borrow.Author.Tests.{eqb-true, not-true, not-false}
+use borrow.Author.Tests.{eqb-true}
 use Rattle.header.specs.Header.{strings}
 use Rattle.head.specs.Head.{rest_rows, extended, extended_work, extend_head}
 use Rattle.stream.specs.Steps.{begin_opener_from}
@@ -16,12 +16,12 @@ returns-then-not-is_tag c =
     let rows = rest_rows args.head args.lens.now (length args.rest.now) in
     let ss = strings args.rest.now args.lens.now in
     begins_refused_tag rows refl (extended_work ss) (extended args.head ss) args.tag.now c.judge_rest.result
-    (sym c.is_tag.ensures ∙ not-true _ c.if-not-is_tag.true) c.judge_rest.ensures c.refuse_tag.ensures
+    (sym c.is_tag.ensures ∙ c.if-not-is_tag.true) c.judge_rest.ensures c.refuse_tag.ensures
 
 pub returns : goal.returns
 unfolding begin_opener_from extend_head
 returns c =
-    let tagged : length c.args.tag.now ≡ 16 = eqb-true _ 16 (sym c.is_tag.ensures ∙ not-false _ c.if-not-is_tag.false) in
+    let tagged : length c.args.tag.now ≡ 16 = eqb-true _ 16 (sym c.is_tag.ensures ∙ c.if-not-is_tag.false) in
     let args = c.args in
     let rows = rest_rows args.head args.lens.now (length args.rest.now) in
     let ss = strings args.rest.now args.lens.now in

@@ -7,7 +7,7 @@ use native.Mathlib.Nat.{zero-add}
 use native.Mathlib.Omega.{arith}
 use lib.ListN.{length}
 use Rattle.answers.specs.Answer.{success, first, Judges}
-use Rattle.answers.proofs.Laws.{passed}
+use Rattle.answers.proofs.Laws.{arm_ok, arm_refused, passed}
 use Rattle.stream.specs.State.{streamed_with}
 use Rattle.stream.specs.Steps.{write_rows, write_step}
 use Rattle.stream.proofs.Laws.{judged_by, refused, done, write_admits}
@@ -16,23 +16,24 @@ use Rattle.stream.proofs.Stream.write.Goals as goal
 pub returns-in-Refused : goal.returns-in-Refused
 unfolding write_step
 returns-in-Refused c =
-    let judged : let args = c.args in
-    Judges (write_rows args.self (length args.piece.now) (length args.output.now)) c.piece_to-answer.result = simp zero-add at (judged_by 2 _ _ c.fits2.ensures c.piece_to-answer.ensures) in
-    refused _ _ _ _ c.piece_to-answer.result c.in_default.keys1 judged (c.refused.ensures _)
+    let args = c.args in
+    let judged : Judges (write_rows args.self (length args.piece.now) (length args.output.now)) c.piece_to-answer.result = simp zero-add at (judged_by 2 _ _ c.fits.ensures c.piece_to-answer.ensures) in
+    refused _ _ _ _ c.piece_to-answer.result (arm_refused _ _ c.in-Refused.is) judged (c.refused.ensures _)
 
 pub stream_at-end-requires : goal.stream_at-end-requires
 stream_at-end-requires c =
-    let none : let args = c.args in
-    first (write_rows args.self (length args.piece.now) (length args.output.now)) ≡ 0 = passed c.piece_to-answer.result _ c.in_default.keys2 (judged c) in
+    let args = c.args in
+    let judged : Judges (write_rows args.self (length args.piece.now) (length args.output.now)) c.piece_to-answer.result = simp zero-add at (judged_by 2 _ _ c.fits.ensures c.piece_to-answer.ensures) in
+    let none : first (write_rows args.self (length args.piece.now) (length args.output.now)) ≡ 0 = passed _ _ (arm_ok _ _ c.in_default.is) judged in
     let a = write_admits _ _ _ none in
     (a.0.width, omega (arith, a.0.total, a.1), omega (arith, a.2))
 
 pub returns : goal.returns
 unfolding write_step
 returns c =
-    let none : let args = c.args in
-    first (write_rows args.self (length args.piece.now) (length args.output.now)) ≡ 0 = passed c.piece_to-answer.result _ c.in_default.keys2 (judged c) in
     let args = c.args in
+    let judged : Judges (write_rows args.self (length args.piece.now) (length args.output.now)) c.piece_to-answer.result = simp zero-add at (judged_by 2 _ _ c.fits.ensures c.piece_to-answer.ensures) in
+    let none : first (write_rows args.self (length args.piece.now) (length args.output.now)) ≡ 0 = passed _ _ (arm_ok _ _ c.in_default.is) judged in
     let s = args.self in
     let n = length args.piece.now in
     let wrote = c.stream_at-end.ensures in
