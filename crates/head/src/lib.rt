@@ -14,7 +14,7 @@ use answers::Answer;
 use octets::Block;
 
 // A head. Whatever its fields hold, a call that takes one judges width and count, and uses the others as they are.
-#[derive(Drop)]
+#[derive(Clone, Copy)]
 pub struct Head {
     // The length of one half of the key.
     pub width: usize,

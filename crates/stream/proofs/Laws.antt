@@ -15,9 +15,7 @@ use Rattle.octets.proofs.Strings.{part_to}
 use Rattle.aes.specs.Aes.{is_width}
 use Rattle.aes.specs.Cipher.{cipher}
 use Rattle.aes.proofs.Widths.{width}
-use Rattle.cmac.specs.Cmac.{chain}
 use Rattle.s2v.specs.S2v.{tail_length}
-use Rattle.s2v.proofs.Laws.{tail}
 use Rattle.keystream.proofs.Laws.{length-xor_piece}
 use Rattle.answers.specs.declared.Answer.{Answer}
 use Rattle.answers.specs.Answer.{Outcome, Row, first, settle, Judges, outcome_of, refusal}

@@ -20,7 +20,7 @@ use octets::Block;
 pub type Tail = tail::Tail;
 
 // A stream state, of a sealer or an opener.
-#[derive(Drop)]
+#[derive(Clone, Copy)]
 pub struct Stream {
     // 0 ended, 1 adding, 2 writing, 3 feeding.
     pub stage: u8,
