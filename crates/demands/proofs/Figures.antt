@@ -115,9 +115,9 @@ one_of {t} {u} {P} {Q} a b = go t u a b
 three : (n a b c : ℕ) → Tells (eqb n a || eqb n b || eqb n c) ((n ≡ a) ⊎ ((n ≡ b) ⊎ (n ≡ c)))
 three n a b c = alike to_right to_left (either (either (equal n a) (equal n b)) (equal n c))
 
-pub key_length : (n : ℕ) → Tells (is_key_length n) (IsKeyLength n)
+pub key_length_lem : (n : ℕ) → Tells (is_key_length n) (IsKeyLength n)
 unfolding is_key_length
-key_length n = three n 32 48 64
+key_length_lem n = three n 32 48 64
 
 pub key_width : (n : ℕ) → Tells (is_width n) (IsKeyWidth n)
 unfolding is_width
@@ -168,7 +168,7 @@ alike_bytes a b = record { holds = same_eq a b; fails = λ e p. false≢true (sy
 -- ---- an admitted key and header list
 
 pub keyed : {key bytes lens : List ℕ} → Admits key bytes lens → is_key_length (length key) ≡ true
-keyed {key} a = when (key_length (length key)) a.keyed
+keyed {key} a = when (key_length_lem (length key)) a.keyed
 
 pub sums : {key bytes lens : List ℕ} → Admits key bytes lens → total lens ≡ length bytes
 sums {lens = lens} a = total-sum lens ∙ a.sums

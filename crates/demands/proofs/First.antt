@@ -37,7 +37,7 @@ use Rattle.demands.specs.First.{called, cleared, sealing_table, FirstSeal, openi
 use Rattle.demands.specs.State.{prepared_head, longer_head, begun_state}
 use Rattle.demands.specs.Steps.{stepped}
 use Rattle.demands.specs.Table.{answered, FirstDue}
-use Rattle.demands.proofs.Figures.{Tells, never, below, not_below, equal, otherwise, unless, judges, one_of, key_length, key_width, ring-length, total-sum, blocks_all, work_all}
+use Rattle.demands.proofs.Figures.{Tells, never, below, not_below, equal, otherwise, unless, judges, one_of, key_length_lem, key_width, ring-length, total-sum, blocks_all, work_all}
 use Rattle.demands.proofs.Given.{by_call}
 use Rattle.demands.proofs.Parts.{from_c_parts, ring_parts}
 use Rattle.demands.proofs.Pieces.{head_figures}
@@ -84,7 +84,7 @@ module _ (key bytes lens input output scratch : List ℕ) where
 
   seal_told : (empty : Bool) (E : Type 0) → Tells empty E → Told (sealing_rows empty) (sealing_table key bytes lens input output scratch E)
   seal_told empty E tells =
-      let is_key = otherwise (key_length (length key)) in
+      let is_key = otherwise (key_length_lem (length key)) in
       let count = below 126 (length lens) in
       let sums = summed lens (length bytes) in
       let long = below limit (length input) in
@@ -113,7 +113,7 @@ module _ (key bytes lens input output scratch : List ℕ) where
 
   open_told : (empty : Bool) (E : Type 0) → Tells empty E → Told (opening_rows empty) (opening_table key bytes lens input output scratch E)
   open_told empty E tells =
-      let is_key = otherwise (key_length (length key)) in
+      let is_key = otherwise (key_length_lem (length key)) in
       let count = below 126 (length lens) in
       let sums = summed lens (length bytes) in
       let short = below (length input) 16 in
@@ -224,7 +224,7 @@ module _ (key_length : ℕ) (ring bytes lens input output scratch : List ℕ) wh
 
     due : FirstDue (ring_table key_length ring bytes lens input output scratch E) (first (front ++ back))
     due =
-        let is_key = otherwise (key_length key_length) in
+        let is_key = otherwise (key_length_lem key_length) in
         let is-ring = otherwise (ring-length key_length (length ring)) in
         let sums = summed lens (length bytes) in
         let short = below (length input) 16 in
@@ -304,7 +304,7 @@ module _ (key bytes lens : List ℕ) where
 
   header_told : (other : Bool) (B : Type 0) → Tells other B → Told (header_rows_with other) (header_table key bytes lens B)
   header_told other B tells =
-      let is_key = otherwise (key_length (length key)) in
+      let is_key = otherwise (key_length_lem (length key)) in
       let count = below 126 (length lens) in
       let sums = summed lens (length bytes) in
       (refl, is_key, (refl, count, (refl, sums, (refl, tells, tt))))

@@ -22,12 +22,12 @@ use Rattle.demands.specs.Figures.{IsKeyLength, sum, whole_work}
 use Rattle.demands.specs.Ring.{IsRing, Opens, works_of, BySlot, SealsUnder, ThirdRing, Ring}
 use Rattle.demands.specs.Second.{Admits}
 use Rattle.demands.specs.Whole.{ThirdWhole}
-use Rattle.demands.proofs.Figures.{when, key_length, work_all}
+use Rattle.demands.proofs.Figures.{when, key_length_lem, work_all}
 use Rattle.demands.proofs.Siv.{length-sealed}
 use Rattle.demands.proofs.Whole.{judged, accepts_the_sealed}
 
 is_key : (n : ℕ) → IsKeyLength n → is_key_length n ≡ true
-is_key n k = when (key_length n) k
+is_key n k = when (key_length_lem n) k
 
 -- what the ring's call comes to with the slot given, of so many
 abbrev given : ℕ → ℕ → List ℕ → List ℕ → List ℕ → List ℕ → List ℕ → List ℕ → ℕ → RingResult
@@ -138,7 +138,7 @@ module _ (key bytes lens input output scratch : List ℕ) where
     where
       go : (t : Bool) → is_key_length (length key) ≡ t → open_ring (length key) key bytes lens input output scratch ≡ record { slot = 0; call = open_call key bytes lens input output scratch }
       go true k =
-          by_given (length key) 1 key bytes lens input output scratch (record { keyed = (key_length (length key)).holds k; whole = omega arith; some = omega arith; most = omega arith })
+          by_given (length key) 1 key bytes lens input output scratch (record { keyed = (key_length_lem (length key)).holds k; whole = omega arith; some = omega arith; most = omega arith })
           (λ r. r ≡ record { slot = 0; call = open_call key bytes lens input output scratch })
           (λ s g.
           let at : s ≡ 0 = omega (arith, chosen_within _ 1 (omega arith) g) in
@@ -177,7 +177,7 @@ one_key_from_c key header input output scratch ad nonce = go (is_key_length (len
 module _ (key_length slots : ℕ) (ring bytes lens y output scratch : List ℕ) (r : IsRing key_length slots ring) (count_fits : length lens ≤ 126) (sums : sum lens ≡ length bytes)
     (output_fits : length y - 16 ≤ length output) (scratch_fits : max (length y - 16) 16 ≤ length scratch) where
   admits : (i : ℕ) → i < slots → Admits (slot_key key_length ring i) bytes lens
-  admits i h = record { keyed = (key_length _).holds (slot_keyed key_length slots ring i (is_key key_length r.keyed) r.whole h); count_fits = count_fits; sums = sums }
+  admits i h = record { keyed = (key_length_lem _).holds (slot_keyed key_length slots ring i (is_key key_length r.keyed) r.whole h); count_fits = count_fits; sums = sums }
 
   -- the third demand for each slot's key
   by_key : (i : ℕ) → i < slots → ThirdWhole (slot_key key_length ring i) bytes lens y output scratch

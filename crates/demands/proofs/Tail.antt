@@ -8,7 +8,7 @@ use Rattle.head.specs.declared.Head.{Head}
 use Rattle.stream.specs.declared.Stream.{Stream}
 use Rattle.stream.specs.Steps.{StepResult}
 use Rattle.demands.specs.First.{FirstBegin}
-use Rattle.demands.specs.Run.{Begin, sealer, opener, Start, undivided, divided, Call, add, turn, write, close, feed, finish, begun_from, begun, call, run}
+use Rattle.demands.specs.Run.{Begin, sealer, opener, Start, undivided, divided, Call, add, turn, write, close, feed, finish, begun_from, begun, call, shared_after, run}
 use Rattle.demands.specs.Steps.{NineButTailLength, ByRule, step_table, step_done}
 use Rattle.demands.specs.Table.{Row, FirstDue}
 use Rattle.demands.specs.Tail.{with_tail_len, SameStep, TailShown}
@@ -37,7 +37,7 @@ unread s n shared finish = record { outcome = refl; state = refl; output = refl 
 
 run_by_rule : (s : Stream) (o : List ℕ) (calls : List Call) → ByRule s → ByRule (run s o calls).state
 run_by_rule s o [] e = e
-run_by_rule s o (c ∷ cs) e = run_by_rule _ _ cs (keeps_rule s o c e)
+run_by_rule s o (c ∷ cs) e = run_by_rule (call s o c).state (shared_after o c (call s o c).output) cs (keeps_rule s o c e)
 
 -- a begin leaves the complete result's state, or the ended one
 begin_by_rule : {table : List Row} {result : StepResult} {work : ℕ} {state : Stream} → FirstBegin table result work state → ByRule state → ByRule result.state
