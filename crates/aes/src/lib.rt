@@ -46,7 +46,7 @@ pub enum KeyAnswer {
 }
 
 // The answer, and the round keys: zeros where the key is refused.
-#[derive(Drop)]
+#[derive(Clone, Copy)]
 pub struct Expansion {
     pub answer: KeyAnswer,
     pub keys: RoundKeys,

@@ -31,7 +31,7 @@ pub struct Head {
 }
 
 // What making a head hands back; its work is 0 after a refusal, and what begins from the head leaves it out.
-#[derive(Drop)]
+#[derive(Clone, Copy)]
 pub struct Made {
     pub answer: Answer,
     pub work: usize,

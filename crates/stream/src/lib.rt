@@ -53,7 +53,7 @@ pub struct Stream {
 }
 
 // What a call hands back; its work in blocks is 0 after a refusal other than Forged.
-#[derive(Drop)]
+#[derive(Clone, Copy)]
 pub struct Step {
     pub answer: Answer,
     pub state: Stream,

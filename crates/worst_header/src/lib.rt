@@ -13,7 +13,7 @@ pub const MOST_BYTES: usize = 1048576;
 
 // An answer, a list of lengths, those past its count zero, and how many blocks its strings have.
 // After a refusal all lengths and the blocks are zero.
-#[derive(Drop)]
+#[derive(Clone, Copy)]
 pub struct HeaderList {
     pub answer: Answer,
     pub lens: [u32; 126],
