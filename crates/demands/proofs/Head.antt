@@ -22,7 +22,6 @@ use Rattle.whole.proofs.Laws.{halves}
 use Rattle.head.specs.declared.Head.{Head}
 use Rattle.head.specs.Head.{head_of, head_of_work, extended, extended_work, fits_head, rest_rows, MakeResult, made_head, refused_head, make_head, extend_head}
 use Rattle.head.proofs.Laws.{head_lengths, extended_lengths, extended_head}
-use Rattle.stream.specs.State.{start}
 use Rattle.stream.specs.Steps.{StepResult, tag_rows, begin_by, begin_sealer, begin_opener, begin_sealer_from, begin_opener_from}
 use Rattle.demands.specs.Figures.{sum, header_blocks}
 use Rattle.demands.specs.Head.{SameButWork, Split, Heads}

@@ -5,13 +5,12 @@ use mathlib.Core.Bool.{◌||◌}
 use mathlib.Core.List.{List, [], ◌∷◌}
 use mathlib.Core.Logic.{◌⊎◌, inl, inr}
 use Prim.{tt}
-use Prim.Native.Nat.{ℕ, zero, suc, ◌-◌, ◌*◌, ◌≤◌, ◌<◌}
+use Prim.Native.Nat.{ℕ, zero, suc, ◌*◌, ◌≤◌, ◌<◌}
 use native.Mathlib.Omega.{arith}
 use lib.Dec.{eqb}
 use lib.ListN.{length, take, get_or}
 use Rattle.answers.specs.Answer.{Outcome, first}
 use Rattle.worst_header.specs.WorstHeader.{most_bytes, is_plan, plan_rows, AllAtLeast, Composes, IsWorst, GivesWorst}
-use Rattle.demands.specs.Figures.{sum}
 use Rattle.demands.specs.First.{IsList, IsWorstList, worst_table, FirstWorst}
 use Rattle.demands.specs.Table.{answered, FirstDue}
 use Rattle.demands.proofs.Figures.{Fails, unless, equal, either, not_below, judges, one_of, total-sum, blocks_all}

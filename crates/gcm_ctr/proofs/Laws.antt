@@ -1,9 +1,8 @@
 -- Laws of counter mode, for any block function: the next counter block byte by byte, the work, undoing,
 -- and a loop that writes a block a turn.
 -- Assumes nothing.
-use Rattle.std.proofs.Common.{◌≡◌, ℕ, zero, suc, ◌+◌, ◌-◌, ◌*◌, ◌/◌, ◌%◌, ◌^◌, ◌<◌, ◌≤◌, min, List, [], ◌∷◌, ◌++◌, length, get_or, take, drop, set, sym, refl, ap, ◌∙◌, ap₂, append-nil, not-suc-le-zero, add-zero, arith, length-drop, drop_of_length-le, length-take, length-take-le, take_all, drop-drop}
+use Rattle.std.proofs.Common.{◌≡◌, ℕ, zero, suc, ◌+◌, ◌-◌, ◌*◌, ◌/◌, ◌%◌, ◌^◌, ◌<◌, ◌≤◌, min, List, [], ◌∷◌, ◌++◌, length, get_or, take, drop, set, sym, refl, ap, ◌∙◌, ap₂, append-nil, arith, length-drop, drop_of_length-le, length-take-le, take_all, drop-drop}
 use native.Mathlib.Decide.{dec_lt}
-use lib.Bits.{bit_xor}
 use Rattle.octets.specs.Octets.{xors, put, part}
 use Rattle.octets.specs.LittleEndian.{read_little_endian}
 use Rattle.octets.proofs.Strings.{length-xors, xors_undo, xors_behind, put_nil, put-put}

@@ -1,7 +1,7 @@
 -- RFC 8452, section 4: counter mode as AES-GCM-SIV has it, over any block function;
 -- beside what calls the function stands its work, the number of calls.
 -- Assumes nothing.
-use Rattle.std.specs.Prelude.{ℕ, zero, suc, ◌+◌, ◌/◌, ◌%◌, ◌^◌, List, [], ◌++◌, length, take, drop, set, slice_index, slice_set}
+use Rattle.std.specs.Prelude.{ℕ, zero, suc, ◌+◌, ◌/◌, ◌%◌, ◌^◌, List, [], ◌++◌, length, take, drop, slice_index, slice_set}
 use Rattle.octets.specs.Octets.{xors}
 use Rattle.octets.specs.LittleEndian.{read_little_endian, little_endian}
 

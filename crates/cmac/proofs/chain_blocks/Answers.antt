@@ -1,7 +1,7 @@
 -- `cmac::chain_blocks` meets its contract: after i turns i blocks are in the chain, and counted.
 -- Assumes nothing.
 use mathlib.Core.Path.{refl}
-use Prim.Native.Nat.{◌+◌, ◌-◌}
+use Prim.Native.Nat.{◌+◌}
 use native.Mathlib.Omega.{arith}
 use Rattle.cmac.specs.Cmac.{chain, chain_work}
 use Rattle.cmac.proofs.Laws.{chain_work_lem, chain_more}

@@ -1,6 +1,5 @@
 -- `cmac::shift_left` meets its contract: after i turns the first i bytes are written.
 -- Assumes nothing.
-use Prim.Native.Nat.{◌-◌}
 use native.Mathlib.Omega.{arith}
 use borrow.Author.Rules.{rules}
 use Rattle.cmac.proofs.Laws.{shifted_more, shifted_last}

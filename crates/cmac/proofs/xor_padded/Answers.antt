@@ -1,7 +1,6 @@
 -- `cmac::xor_padded` meets its contract: after i turns the first i bytes of the string are xored in, and then 80.
 -- Assumes nothing.
 use mathlib.Core.Path.{sym, ap, ◌∙◌}
-use Prim.Native.Nat.{◌-◌}
 use native.Mathlib.Omega.{arith}
 use lib.Seq.{take_all}
 use Rattle.octets.specs.Octets.{xors}

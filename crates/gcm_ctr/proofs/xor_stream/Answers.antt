@@ -1,6 +1,6 @@
 -- `gcm_ctr::xor_stream` meets its contract: after j turns the first j blocks are written, and the rest is to come.
 -- Assumes nothing.
-use Rattle.std.proofs.Common.{◌-◌, length, refl, arith}
+use Rattle.std.proofs.Common.{length, refl, arith}
 use Rattle.aes.specs.Cipher.{cipher}
 use Rattle.aes.proofs.Widths.{length-cipher}
 use Rattle.gcm_ctr.proofs.Laws.{aes_ctr_work_lem, coming_all, coming_more, coming_none}

@@ -3,9 +3,8 @@
 use mathlib.Core.Path.{◌≡◌, refl}
 use lib.ListN.{length}
 use borrow.Author.Rules.{rules}
-use Rattle.octets.specs.Octets.{put}
 use Rattle.aes.proofs.Widths.{length-cipher}
-use Rattle.kept.proofs.Laws.{from_kept, piece_within, piece_beyond}
+use Rattle.kept.proofs.Laws.{piece_within, piece_beyond}
 use Rattle.kept.proofs.xor_piece.Goals as goal
 
 pub returns-then-n-piece : goal.returns-then-n-piece

@@ -1,7 +1,7 @@
 -- `keystream::xor_blocks` meets its contract: after j turns the first j blocks are written, and counted.
 -- Assumes nothing.
 use mathlib.Core.Path.{refl}
-use Prim.Native.Nat.{◌+◌, ◌-◌}
+use Prim.Native.Nat.{◌+◌}
 use native.Mathlib.Omega.{arith}
 use Rattle.keystream.specs.KeyStream.{stream_work}
 use Rattle.keystream.proofs.Laws.{stream_work_lem}

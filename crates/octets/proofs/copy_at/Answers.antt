@@ -1,7 +1,6 @@
 -- `octets::copy_at` meets its contract: after i turns the first i bytes of `src` are written.
 -- Assumes nothing.
 use mathlib.Core.Path.{refl}
-use Prim.Native.Nat.{◌-◌}
 use native.Mathlib.Omega.{arith}
 use Rattle.octets.proofs.Strings.{written_more, written_all}
 use Rattle.octets.proofs.copy_at.Goals as goal

@@ -1,6 +1,5 @@
 -- `octets::same_block` meets its contract: after i turns `diff` is zero where the first i bytes agree, and only there.
 -- Assumes nothing.
-use Prim.Native.Nat.{◌-◌}
 use native.Mathlib.Omega.{arith}
 use mathlib.Core.Path.{◌≡◌}
 use lib.ListN.{length}

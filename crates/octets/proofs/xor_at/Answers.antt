@@ -1,6 +1,5 @@
 -- `octets::xor_at` meets its contract: after i turns the first i bytes of the xor are written.
 -- Assumes nothing.
-use Prim.Native.Nat.{◌-◌}
 use native.Mathlib.Omega.{arith}
 use Rattle.octets.proofs.Strings.{written_more, written_all, length-xors, get_d_xors}
 use Rattle.octets.proofs.xor_at.Goals as goal

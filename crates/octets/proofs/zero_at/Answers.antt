@@ -1,6 +1,5 @@
 -- `octets::zero_at` meets its contract: after i turns the first i bytes of the zeros are written.
 -- Assumes nothing.
-use Prim.Native.Nat.{◌-◌}
 use native.Mathlib.Omega.{arith}
 use lib.ListN.{length-replicate, get_or-replicate}
 use Rattle.octets.proofs.Strings.{written_more, written_all}

@@ -1,14 +1,13 @@
 -- `s2v::absorb_strings` meets its contract.
 -- Assumes nothing.
-use Rattle.std.proofs.Common.{◌≡◌, ℕ, ◌+◌, ◌<◌, ◌^◌, ◌≤◌, List, length, take, get_or, refl, sym, ap, ap₂, ◌∙◌, arith, rules, Bor}
+use Rattle.std.proofs.Common.{◌≡◌, ℕ, ◌+◌, ◌<◌, ◌^◌, List, length, take, get_or, refl, sym, ap, ap₂, ◌∙◌, arith, rules, Bor}
 use Rattle.octets.specs.Octets.{part}
 use Rattle.aes.specs.Cipher.{cipher}
-use Rattle.cmac.specs.Cmac.{double, cmac, cmac_work}
-use Rattle.octets.specs.Octets.{xors}
+use Rattle.cmac.specs.Cmac.{cmac_work}
 use Rattle.header.specs.Header.{total, strings}
-use Rattle.header.proofs.Laws.{total-take, total_more, total_next}
+use Rattle.header.proofs.Laws.{total_more, total_next}
 use Rattle.s2v.specs.S2v.{absorb_one, absorb_strings, absorb_work}
-use Rattle.s2v.proofs.Laws.{absorbed, absorbed_more, absorbed_all, worked, worked_more, worked_all, worked_most}
+use Rattle.s2v.proofs.Laws.{absorbed_more, worked_more, worked_most}
 use Rattle.s2v.proofs.absorb_strings.Goals as goal
 
 pub loop-i-init : goal.loop-i-init

@@ -1,6 +1,5 @@
 -- `aes::schedule::schedule` meets its contract: before turn i the first i words are written and the rest is zero.
 -- Assumes nothing.
-use Prim.Native.Nat.{◌-◌}
 use native.Mathlib.Omega.{arith}
 use Rattle.aes.proofs.KeyWords.{scheduled_key, scheduled_more, scheduled_all}
 use Rattle.aes.proofs.schedule.schedule.Goals as goal

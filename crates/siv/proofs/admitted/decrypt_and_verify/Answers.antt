@@ -1,15 +1,14 @@
 -- `siv::admitted::decrypt_and_verify` meets its contract.
 -- Assumes nothing.
 use mathlib.Core.Path.{◌≡◌, ap, ap₂, ◌∙◌}
-use mathlib.Core.List.{List}
-use Prim.Native.Nat.{ℕ, ◌+◌, ◌-◌}
+use Prim.Native.Nat.{◌+◌, ◌-◌}
 use native.Mathlib.Omega.{arith}
 use lib.ListN.{length}
 use Rattle.octets.specs.Octets.{put, same}
 use Rattle.octets.proofs.Strings.{part_rest}
 use Rattle.header.specs.Header.{strings}
 use Rattle.header.proofs.Laws.{blocks_most}
-use Rattle.whole.specs.Siv.{tag_of, tag_of_work, streamed_work, opened, genuine, genuine_work, IsTag}
+use Rattle.whole.specs.Siv.{tag_of, tag_of_work, streamed_work, opened, genuine, genuine_work}
 use Rattle.whole.proofs.Laws.{length-opened, opened_by, text_read}
 use Rattle.whole.proofs.Lengths.{genuine_lengths}
 use Rattle.siv.proofs.admitted.decrypt_and_verify.Goals as goal
