@@ -12,11 +12,11 @@ const THIS: &str = "host/tests/docs.rs";
 
 const RULES: &str = "docs/RULES.md";
 
-/// It speaks of what was, so its names need not be there now.
-const CHANGES: &str = "docs/CHANGES.md";
+/// They speak of what was, so their names need not be there now.
+const PAST: [&str; 2] = ["docs/CHANGES.md", "docs/PORT.md"];
 
-/// Its tables are as wide as they are.
-const BENCHMARKS: &str = "docs/BENCHMARKS.md";
+/// Their tables and their edits are as wide as they are.
+const WIDE: [&str; 2] = ["docs/BENCHMARKS.md", "docs/PORT.md"];
 
 /// Names in code type that are the kit's or somebody else's, or an example.
 const OTHER_NAMES: [&str; 4] = ["Tie.antt", "tools/pretty.py", "cryptography", "proofs/Judge.antt"];
@@ -72,7 +72,7 @@ impl Tree {
         names.sort();
         for name in names {
             let path = format!("{folder}{name}");
-            if OUTSIDE.contains(&&*path) {
+            if OUTSIDE.contains(&&*path) || is_made(&path) {
                 continue;
             }
             match fs::metadata(&path).is_ok_and(|meta| meta.is_dir()) {
@@ -89,6 +89,11 @@ impl Tree {
     fn code(&self) -> impl Iterator<Item = &File> {
         self.files.iter().filter(|file| file.path != THIS && CODE.iter().any(|place| file.path.starts_with(place)))
     }
+}
+
+/// What rt keeps of a crate.
+fn is_made(path: &str) -> bool {
+    path.strip_prefix("crates/").and_then(|path| path.split_once('/')).is_some_and(|(_, rest)| rest == "out")
 }
 
 fn is_page(path: &str) -> bool {
@@ -302,7 +307,7 @@ fn check_names(tree: &Tree, pages: &[Page], failures: &mut Vec<String>) -> usize
     let by_pattern = |name: &str| name.contains('*') && known.iter().any(|word| matches(name, word));
     let made = |name: &str| OUTSIDE.iter().any(|place| name.starts_with(&format!("{place}/")));
     let mut count = 0;
-    for page in pages.iter().filter(|page| page.file.path != CHANGES) {
+    for page in pages.iter().filter(|page| !PAST.contains(&&*page.file.path)) {
         for (line, span) in &page.spans {
             for name in names(span) {
                 count += 1;
@@ -316,7 +321,7 @@ fn check_names(tree: &Tree, pages: &[Page], failures: &mut Vec<String>) -> usize
 }
 
 fn check_widths(pages: &[Page], failures: &mut Vec<String>) {
-    for page in pages.iter().filter(|page| page.file.path != BENCHMARKS) {
+    for page in pages.iter().filter(|page| !WIDE.contains(&&*page.file.path)) {
         let most = if page.file.path == "README.md" { README_WIDTH } else { PAGE_WIDTH };
         for (i, line) in page.file.text.lines().enumerate() {
             let width = line.chars().count();
@@ -415,7 +420,7 @@ fn records(tree: &Tree) -> HashMap<&str, HashSet<&str>> {
 /// Where a page says `a`, `b` of `R`, and R is a record, these are its fields.
 fn check_fields(tree: &Tree, pages: &[Page], failures: &mut Vec<String>) {
     let records = records(tree);
-    for page in pages.iter().filter(|page| page.file.path != CHANGES) {
+    for page in pages.iter().filter(|page| !PAST.contains(&&*page.file.path)) {
         let parts: Vec<&str> = page.prose.split('`').collect();
         let between = |i: usize| parts[i].split_whitespace().collect::<Vec<_>>().join(" ");
         for i in (3..parts.len()).step_by(2).filter(|&i| between(i - 1) == "of") {

@@ -83,7 +83,7 @@ the calls' definitions, and what a definition gives
  worst_header.specs.WorstHeader GivesWorst
  kinphlor.specs.Interface seal_from_c open_from_c open_ring_from_c packed packed_ring planned_from_c GivesWorstFromC
 the promises, which Promises.antt says in parts, and what they speak of
- octets.specs.Octets Lent
+ octets.specs.Octets Lent LentMut
  aes.specs.Aes key_number Expands
  whole.specs.Calls Performs
  whole.specs.Ring PerformsRing

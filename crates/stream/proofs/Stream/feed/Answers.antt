@@ -61,16 +61,6 @@ absorb-absorbed-requires c =
     let a = feed_admits _ _ _ none in
     (a.0.width, a.0.tail_len, simp (length-take, length-drop) (omega (arith, a.1)))
 
-pub overflow_add-result : goal.overflow_add-result
-unfolding piece_work added_work
-overflow_add-result c =
-    let args = c.args in
-    let judged : Judges (feed_rows args.self (length args.piece.now) (length args.output.now)) c.piece_to-answer.result = judged_by 3 _ _ c.fits.ensures c.piece_to-answer.ensures in
-    let none : first (feed_rows args.self (length args.piece.now) (length args.output.now)) ≡ 0 = passed _ _ (arm_ok _ _ c.in_default.is) judged in
-    let s = args.self in
-    let n = length args.piece.now in
-    omega (arith, c.stream_at-end.ensures.kept.work ∙ stream_work_lem (new_blocks s.total n), (joined args.self args.piece.now args.output.now none c.stream_at-end.ensures.kept.block c.stream_at-end.ensures.text c.absorb-absorbed.ensures).1 ∙ chain_work_lem (leaving_blocks s.total n), cut (s.total + n), (feed_admits _ _ _ none).1)
-
 pub returns : goal.returns
 unfolding feed_step
 returns c =
@@ -82,3 +72,13 @@ returns c =
     let fed = joined args.self args.piece.now args.output.now none end.kept.block end.text c.absorb-absorbed.ensures in
     done _ _ _ _ none
     (record { outcome = ap (success n) (ap₂ ◌+◌ end.kept.work fed.1); state = fed.0; output = end.text })
+
+pub overflow_add-result : goal.overflow_add-result
+unfolding piece_work added_work
+overflow_add-result c =
+    let args = c.args in
+    let judged : Judges (feed_rows args.self (length args.piece.now) (length args.output.now)) c.piece_to-answer.result = judged_by 3 _ _ c.fits.ensures c.piece_to-answer.ensures in
+    let none : first (feed_rows args.self (length args.piece.now) (length args.output.now)) ≡ 0 = passed _ _ (arm_ok _ _ c.in_default.is) judged in
+    let s = args.self in
+    let n = length args.piece.now in
+    omega (arith, c.stream_at-end.ensures.kept.work ∙ stream_work_lem (new_blocks s.total n), (joined args.self args.piece.now args.output.now none c.stream_at-end.ensures.kept.block c.stream_at-end.ensures.text c.absorb-absorbed.ensures).1 ∙ chain_work_lem (leaving_blocks s.total n), cut (s.total + n), (feed_admits _ _ _ none).1)

@@ -23,6 +23,14 @@ tail-decides wanted s stage wide is few limited h =
     let within = subst (λ (m : ℕ). s.written ≤ m) limited h in
     simp (eq-eqb _ _ stage, sym wide ∙ is, le-ltb _ _ few, le-ltb _ _ within) refl
 
+pub returns : goal.returns
+returns c =
+    let s = c.args.s in
+    let decides = tail-decides c.args.wanted c.args.s c.if-s-wanted.false c.is_width.ensures c.if-not-is_width.false c.if-s-gt-LIMIT.false c.written_limit.ensures c.if-written_limit-s.false in
+    let agrees : eqb s.tail_len (tail_length s.total) ≡ true = sym c.is_tail_len.ensures ∙ c.if-not-is_tail_len.false in
+    let whole : kept_fits c.args.wanted s ≡ true = sym c.kept_fits.ensures ∙ c.if-not-kept_fits.false in
+    c.zero_from.ensures ∙ ap (λ (k : ℕ). all_zero (drop k s.tail)) (eqb-true s.tail_len (tail_length s.total) agrees) ∙ sym (decides ∙ simp (agrees, whole))
+
 pub returns-then-s-wanted : goal.returns-then-s-wanted
 unfolding fits
 returns-then-s-wanted c = simp (ne_eqb _ _ c.if-s-wanted.true)
@@ -60,11 +68,3 @@ returns-then-not-kept_fits c =
     let agrees : eqb c.args.s.tail_len (tail_length c.args.s.total) ≡ true = sym c.is_tail_len.ensures ∙ c.if-not-is_tail_len.false in
     let kept : kept_fits c.args.wanted c.args.s ≡ c.kept_fits.result = sym c.kept_fits.ensures in
     sym (decides ∙ simp (agrees, kept ∙ c.if-not-kept_fits.true))
-
-pub returns : goal.returns
-returns c =
-    let s = c.args.s in
-    let decides = tail-decides c.args.wanted c.args.s c.if-s-wanted.false c.is_width.ensures c.if-not-is_width.false c.if-s-gt-LIMIT.false c.written_limit.ensures c.if-written_limit-s.false in
-    let agrees : eqb s.tail_len (tail_length s.total) ≡ true = sym c.is_tail_len.ensures ∙ c.if-not-is_tail_len.false in
-    let whole : kept_fits c.args.wanted s ≡ true = sym c.kept_fits.ensures ∙ c.if-not-kept_fits.false in
-    c.zero_from.ensures ∙ ap (λ (k : ℕ). all_zero (drop k s.tail)) (eqb-true s.tail_len (tail_length s.total) agrees) ∙ sym (decides ∙ simp (agrees, whole))
