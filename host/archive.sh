@@ -1,6 +1,7 @@
 #!/usr/bin/env bash
 # archive.sh NAME: target/staticlib/libNAME.a, proved and compiled by rt, unless it is up to date.
-# It is the static library NAME_c where NAME itself is a library for other crates, and else NAME.
+# It is the static library NAME_c where NAME itself is a library for other crates, and else NAME. It is compiled for
+# any x86-64 processor: by itself rt takes a newer one.
 # archive.sh NAME anew: the same, whatever is there.
 # The prover's notes go to build/NAME.log; the terminal has a line for each crate as it is proved.
 set -eu -o pipefail
@@ -64,7 +65,7 @@ if [ "$how" != anew ] && [ -f "$archive" ] && [ -f "$stamp" ] && [ "$(cat "$stam
 fi
 rm -f "$archive" "$stamp" "$made"
 echo "proving $name and what it stands on, a few minutes from nothing; notes in $log"
-(cd "crates/$crate" && exec rt lib) 2>&1 9>&- | tee "$log" | progress || {
+(cd "crates/$crate" && exec rt lib --cpu=x86-64) 2>&1 9>&- | tee "$log" | progress || {
     echo "kinphlor: $name is not proved. The end of $log, without its counts of modules:" >&2
     grep -v '^[a-z]* [a-z0-9_]*: modules loaded=\|^logic /' "$log" | tail -n 12 | cut -c 1-300 >&2
     exit 1

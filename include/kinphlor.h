@@ -1,8 +1,8 @@
 /*
  * kinphlor.h: AES-SIV (RFC 5297) over whole records.
  *
- * This file is C99, and C++11 too. The archive, libkinphlor.a, is for x86-64-v2 (x86-64 with SSE4.2) with the
- * System V calling convention; it is position-independent and needs nothing but the C library's memcpy and memset.
+ * This file is C99, and C++11 too. The archive, libkinphlor.a, is for x86-64 with the System V calling
+ * convention; it is position-independent and needs nothing but the C library's memcpy and memset.
  *
  *   kinphlor_seal       seals a record under a key
  *   kinphlor_open       opens what was sealed under the same key and header, and refuses all else

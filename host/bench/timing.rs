@@ -30,7 +30,7 @@ pub const MODES: [Mode; 3] = [
         name: "none",
         title: "Times, AES and vector instructions off",
         panel: "AES and vector instructions off",
-        note: "Kinphlor runs code for x86-64-v2, the others code that any x86-64 processor has the instructions for.",
+        note: "All three run code that any x86-64 processor has the instructions for.",
         openssl: Some("0:0"),
         libgcrypt: c"all",
     },

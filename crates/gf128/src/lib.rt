@@ -1,2 +1,2 @@
-// No function: the field and POLYVAL are in specs/, their laws in proofs/.
+// No function: the field and POLYVAL, as definitions in specs/.
 #![tactic(auto)]
