@@ -1,7 +1,7 @@
 #!/usr/bin/env python3
 """Spells this repository's own definitions and lemmas as today's Rattle does.
 
-usage: python3 tools/respell.py [--check]      at the top, once, after port.py
+usage: python3 tools/respell.py [--check] [--table]      at the top, once, after port.py; --check writes nothing
 
 A name in camel case or with dashes gets underscores; a dash stays between two names of functions, as in
 `length-xors`. Types, modules, the names of src/ and those that Rattle makes stay. Code of .antt files,
@@ -17,7 +17,6 @@ WORD = re.compile(r'[^\s(){}.;,@"«»`]+')
 DECLARED = re.compile(
     r"(?m)^ *(?:(?:pub|abbrev|unfoldable|pattern) +)*([^\s(){}.;,@\"«»:]+)(?: (?:\{[^{}\n]*\}|\([^()\n]*\)))* :(?= |$)"
 )
-HEADS = re.compile(r"(?m)^ *(?:pub )?(?:record|data) (\S+)")
 STD = set(
     "length take drop append replicate set get_or map cons mul add sub div mod le lt xor cond eqb ltb leb "
     "bit_xor bit_or sum max min put xors".split()
@@ -101,7 +100,7 @@ def main():
         if new in declared and not olds <= fields:
             bad.append(f"{new}: {', '.join(sorted(olds))}, and it is declared in {', '.join(sorted(declared[new]))}")
     for p, t in antt.items():
-        ws = set(WORD.findall(t)) - set() if not is_generated(p) else set()
+        ws = set() if is_generated(p) else set(WORD.findall(t))
         for old in ws & set(table):
             if table[old] in ws and old not in fields:
                 bad.append(f"{p}: both {old} and {table[old]}")
@@ -110,8 +109,8 @@ def main():
     if "--table" in sys.argv:
         for old in sorted(table):
             print(old, table[old])
-    if "--check" in sys.argv:
-        return
+    if bad or "--check" in sys.argv:
+        sys.exit(1 if bad else 0)
 
     def one(m):
         return table.get(m[0], m[0])
