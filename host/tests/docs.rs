@@ -13,10 +13,10 @@ const THIS: &str = "host/tests/docs.rs";
 const RULES: &str = "docs/RULES.md";
 
 /// They speak of what was, so their names need not be there now.
-const PAST: [&str; 2] = ["docs/CHANGES.md", "docs/PORT.md"];
+const PAST: [&str; 3] = ["docs/CHANGES.md", "docs/DESIGN-PASS.md", "docs/PORT.md"];
 
 /// Their tables and their edits are as wide as they are.
-const WIDE: [&str; 2] = ["docs/BENCHMARKS.md", "docs/PORT.md"];
+const WIDE: [&str; 3] = ["docs/BENCHMARKS.md", "docs/DESIGN-PASS.md", "docs/PORT.md"];
 
 /// Names in code type that are the kit's or somebody else's, or an example.
 const OTHER_NAMES: [&str; 4] = ["Tie.antt", "tools/pretty.py", "cryptography", "proofs/Judge.antt"];
