@@ -61,9 +61,7 @@ the standards' functions, xors, and the header strings
  whole.specs.Siv tag_of streamed sealed opened
 declared types
  aes.specs.declared.Expansion Expansion
- aes.specs.declared.KeyAnswer.TheVariants Expanded Refused
- answers.specs.declared.Answer Answer
- answers.specs.declared.Answer.TheVariants Ok Refused
+ aes.specs.declared.KeyRefusal.TheVariants Length
  answers.specs.declared.Refusal.TheVariants KeyLength HeaderCount HeaderLengths TooLong SealedLength OutputShort
  answers.specs.declared.Refusal.TheVariants ScratchShort Forged State EmptyNonce RingLength HeaderPlan
  whole.specs.declared.Report Report
@@ -73,7 +71,7 @@ declared types
  stream.specs.declared.Stream Stream
  stream.specs.declared.Step Step
 the calls' definitions, and what a definition gives
- answers.specs.Answer Outcome outcome_of
+ answers.specs.Answer Answer Outcome outcome_of
  whole.specs.Calls CallResult seal_call open_call
  whole.specs.Ring RingResult open_ring
  whole.specs.Work planned_work

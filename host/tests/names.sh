@@ -4,8 +4,8 @@ set -eu -o pipefail
 
 rattle() {
     {
-        sed -nE '/^pub enum Answer/,/^}/s/^ *([A-Za-z]+)\(usize\),$/\1 0/p' crates/answers/src/lib.rt
-        sed -nE 's/^ *Refusal::([A-Za-z]+) => ([0-9]+),$/\1 \2/p' crates/answers/src/lib.rt
+        grep -q '^pub type Answer = Result<usize, Refusal>;$' crates/answers/src/lib.rt && echo 'OK 0'
+        sed -nE '/^pub enum Refusal/,/^}/s/^ *([A-Za-z]+) = ([0-9]+),$/\1 \2/p' crates/answers/src/lib.rt
     } | sed -E 's/([a-z])([A-Z])/\1_\2/g' | tr '[:lower:]' '[:upper:]'
 }
 

@@ -4,7 +4,6 @@ use mathlib.Core.Path.{◌≡◌, ap, ap₂, sym, ◌∙◌}
 use mathlib.Core.Bool.{true}
 use mathlib.Core.List.{List, [], ◌∷◌, ◌++◌}
 use Prim.Native.Nat.{ℕ, suc, ◌+◌, ◌-◌, ◌*◌, ◌/◌, ◌%◌, ◌≤◌, ◌<◌}
-use native.Mathlib.Nat.{le-div_iff_mul-le, div-lt_iff_lt-mul}
 use native.Mathlib.Omega.{arith}
 use lib.Bits.{bit_xor}
 use lib.Dec.{eqb}
@@ -21,14 +20,6 @@ use Rattle.aes.proofs.Words.{own, word_is, word-xor, word_bytes}
 -- a table that passes the test has the powers of 02
 pub powers : (table : List ℕ) → all (λ k. eqb (get_or table k 0) (power 2 k)) 10 ≡ true → Powers table
 powers table e = record { rule = agree 10 (λ k. get_or table k 0) (power 2) e }
-
--- ---- how often a key's length goes into a word's number
-
-pub turn_low : (nk i : ℕ) → 4 ≤ nk → nk ≤ i → 1 ≤ i / nk
-turn_low nk i h k = (le-div_iff_mul-le {k = nk} {x = 1} {y = i} (omega arith)).1 (omega arith)
-
-pub turn_high : (nk i : ℕ) → 4 ≤ nk → i < 4 * nk + 28 → i / nk < 11
-turn_high nk i h k = (div-lt_iff_lt-mul {k = nk} {x = i} {y = 11} (omega arith)).1 (omega arith)
 
 -- ---- the ways to make `temp`
 
@@ -84,7 +75,6 @@ next-length nk i w = length-xors (word w (i - nk)) (temp nk i (word w (i - 1)))
 
 -- what it has reached when word i is next
 pub record Scheduled (nk : ℕ) (key keys : List ℕ) (i : ℕ) : Type 0 where
-  pub low : nk ≤ i
   pub long : length (schedule nk key (i - nk)) ≡ 4 * i
   pub bytes : keys ≡ put (replicate 240 0) 0 (schedule nk key (i - nk))
 
@@ -93,9 +83,9 @@ unfolding schedule
 scheduled_key nk key keys e k =
     let none : 0 ≡ nk - nk = omega arith in
     let start : key ≡ schedule nk key (nk - nk) = ap (schedule nk key) none in
-    record { low = omega arith; long = ap length (sym start) ∙ e; bytes = k ∙ ap (put (replicate 240 0) 0) start }
+    record { long = ap length (sym start) ∙ e; bytes = k ∙ ap (put (replicate 240 0) 0) start }
 
-module _ (nk : ℕ) (key keys next : List ℕ) (i : ℕ) (words : 1 ≤ nk) (fits : i < 60) (s : Scheduled nk key keys i)
+module _ (nk : ℕ) (key keys next : List ℕ) (i : ℕ) (words : 1 ≤ nk) (low : nk ≤ i) (fits : i < 60) (s : Scheduled nk key keys i)
     (e : next ≡ put keys (4 * i) (next_word nk i keys)) where
   before : List ℕ
   before = schedule nk key (i - nk)
@@ -104,8 +94,8 @@ module _ (nk : ℕ) (key keys next : List ℕ) (i : ℕ) (words : 1 ≤ nk) (fit
   grown : schedule nk key (i + 1 - nk) ≡ before ++ next_word nk i before
   unfolding schedule before
   grown =
-      let count : i + 1 - nk ≡ suc (i - nk) = omega (arith, s.low) in
-      let number : nk + (i - nk) ≡ i = omega (arith, s.low) in
+      let count : i + 1 - nk ≡ suc (i - nk) = omega arith in
+      let number : nk + (i - nk) ≡ i = omega arith in
       ap (schedule nk key) count ∙ ap (λ (n : ℕ). before ++ next_word nk n before) number
 
   pub scheduled_more : Scheduled nk key next (i + 1)
@@ -113,12 +103,11 @@ module _ (nk : ℕ) (key keys next : List ℕ) (i : ℕ) (words : 1 ≤ nk) (fit
   scheduled_more =
       let end : 4 * i ≡ 0 + length before = omega (arith, s.long) in
       record {
-        low = omega (arith, s.low);
         long = ap length grown ∙ length-append before (next_word nk i before) ∙ omega (arith, s.long, next-length nk i before);
         bytes =
             e
             ∙ ap (λ (l : List ℕ). put l (4 * i) (next_word nk i l)) s.bytes
-            ∙ ap₂ (put (put (replicate 240 0) 0 before)) end (next_front (replicate 240 0) before nk i words s.low s.long)
+            ∙ ap₂ (put (put (replicate 240 0) 0 before)) end (next_front (replicate 240 0) before nk i words low s.long)
             ∙ put-put (replicate 240 0) 0 before (next_word nk i before) (omega (arith, s.long, length-replicate {A = ℕ} 240 0))
             ∙ ap (put (replicate 240 0) 0) (sym grown);
       }

@@ -5,8 +5,9 @@ use mathlib.Core.List.{List, [], ◌∷◌, ◌++◌}
 use Prim.Native.Nat.{ℕ, ◌+◌, ◌*◌, ◌/◌, ◌%◌, ◌^◌, ◌<◌}
 use native.Mathlib.Nat.{lt_of_le_of_lt, div-div-eq-div-mul, div-add-mod', mod-eq_of_lt, div-lt_iff_lt-mul}
 use native.Mathlib.Omega.{arith}
-use lib.Bits.{bit_xor, bit_and, xor_shr, xor_mod, and_shr, and_mod, and_le_l, xor_lt, xor_comm}
+use lib.Bits.{bit_or, bit_xor, bit_and, or_shifted_r, xor_shr, xor_mod, and_shr, and_mod, and_le_l, xor_lt, xor_comm}
 use lib.ListN.{length}
+use Rattle.std.specs.Int.{w32, rotate_right}
 use Rattle.octets.specs.Octets.{entries}
 use Rattle.octets.proofs.Strings.{entries_all}
 use Rattle.aes.specs.declared.State.{State}
@@ -57,21 +58,10 @@ sum {a} {b} {c} {w = w} h p =
     (digit (w / 0x10000) (div-div-eq-div-mul w 0x10000 0x100) p.row2)
     (sym (mod-eq_of_lt ((div-lt_iff_lt-mul {k = 0x1000000} {x = w} {y = 0x100} (omega arith)).1 (omega arith))) ∙ p.row3)
 
--- ---- the code's ways to move the bytes of a word up
+-- ---- a word rotated by bytes
 
-module _ {a b c d : ℕ} (ha : a < 0x100) (hb : b < 0x100) (hc : c < 0x100) (hd : d < 0x100) (w : ℕ) (e : w ≡ a + b * 0x100 + c * 0x10000 + d * 0x1000000) where
-  moved1 : WordIs b c d a (w / 0x100 + w % 0x100 * 0x1000000)
-  moved1 = word_is _ _ _ _ _ hb hc hd ha (omega arith)
-
-  moved2 : WordIs c d a b (w / 0x10000 + w % 0x10000 * 0x10000)
-  moved2 = word_is _ _ _ _ _ hc hd ha hb (omega arith)
-
-  moved3 : WordIs d a b c (w / 0x1000000 + w % 0x1000000 * 0x100)
-  moved3 = word_is _ _ _ _ _ hd ha hb hc (omega arith)
-
--- what is moved up is the bytes of a word, whatever they are called
-pub moved_up : {a b c d w r : ℕ} → WordIs a b c d w → WordIs (w / 0x100 % 0x100) (w / 0x10000 % 0x100) (w / 0x1000000 % 0x100) (w % 0x100) r → WordIs b c d a r
-moved_up p q = record { row0 = q.row0 ∙ p.row1; row1 = q.row1 ∙ p.row2; row2 = q.row2 ∙ p.row3; row3 = q.row3 ∙ p.row0 }
+turned : (w k j : ℕ) → w / 2 ^ k < 2 ^ j → w * 2 ^ j % 2 ^ 32 ≡ w % 2 ^ k * 2 ^ j → bit_or (w / 2 ^ k) (w * 2 ^ j % 2 ^ 32) ≡ w % 2 ^ k * 2 ^ j + w / 2 ^ k
+turned w k j h e = ap (bit_or (w / 2 ^ k)) e ∙ or_shifted_r (w % 2 ^ k) j (w / 2 ^ k) h
 
 module _ {a b c d w : ℕ} (h : w < 2 ^ 32) (p : WordIs a b c d w) where
   a_byte : a < 0x100
@@ -86,14 +76,14 @@ module _ {a b c d w : ℕ} (h : w < 2 ^ 32) (p : WordIs a b c d w) where
   d_byte : d < 0x100
   d_byte = omega (arith, p.row3)
 
-  pub up1_is : WordIs b c d a (w / 0x100 + w % 0x100 * 0x1000000)
-  up1_is = moved1 a_byte b_byte c_byte d_byte w (sum h p)
+  pub rotated_8 : WordIs b c d a (rotate_right w32 w 8)
+  rotated_8 = word_is b c d a _ b_byte c_byte d_byte a_byte (turned w 8 24 (omega arith) (omega arith) ∙ omega (arith, sum h p))
 
-  pub up2_is : WordIs c d a b (w / 0x10000 + w % 0x10000 * 0x10000)
-  up2_is = moved2 a_byte b_byte c_byte d_byte w (sum h p)
+  pub rotated_16 : WordIs c d a b (rotate_right w32 w 16)
+  rotated_16 = word_is c d a b _ c_byte d_byte a_byte b_byte (turned w 16 16 (omega arith) (omega arith) ∙ omega (arith, sum h p))
 
-  pub up3_is : WordIs d a b c (w / 0x1000000 + w % 0x1000000 * 0x100)
-  up3_is = moved3 a_byte b_byte c_byte d_byte w (sum h p)
+  pub rotated_24 : WordIs d a b c (rotate_right w32 w 24)
+  rotated_24 = word_is d a b c _ d_byte a_byte b_byte c_byte (turned w 24 8 (omega arith) (omega arith) ∙ omega (arith, sum h p))
 
   -- ---- twice each byte
 
@@ -120,10 +110,6 @@ module _ {a b c d w : ℕ} (h : w < 2 ^ 32) (p : WordIs a b c d w) where
   pub doubled_lt : bit_xor w (bit_and w 0x80808080) * 2 < 2 ^ 32
   unfolding top
   doubled_lt = omega (arith, low_sum)
-
-  pub reduced_lt : bit_and w 0x80808080 / 0x80 * 0x1b < 2 ^ 32
-  unfolding top
-  reduced_lt = omega (arith, top_lt)
 
   pub twice_is : WordIs (mul 2 a) (mul 2 b) (mul 2 c) (mul 2 d) (bit_xor (bit_xor w (bit_and w 0x80808080) * 2) (bit_and w 0x80808080 / 0x80 * 0x1b))
   unfolding top

@@ -1,8 +1,8 @@
 -- AES for the three key widths, and what the key expansion answers.
 -- Assumes nothing.
-use Rattle.std.specs.Prelude.{◌≡◌, Bool, cond, ◌||◌, List, ℕ, eqb, length, replicate}
-use Rattle.aes.specs.declared.KeyAnswer.{KeyAnswer}
-use Rattle.aes.specs.declared.KeyAnswer.TheVariants.{Expanded, Refused}
+use Rattle.std.specs.Prelude.{◌≡◌, Bool, cond, ◌||◌, List, ℕ, eqb, length, replicate, Result, Ok, Err}
+use Rattle.aes.specs.declared.KeyRefusal.{KeyRefusal}
+use Rattle.aes.specs.declared.KeyRefusal.TheVariants.{Length}
 use Rattle.aes.specs.declared.Expansion.{Expansion}
 use Rattle.aes.specs.Cipher.{cipher}
 use Rattle.aes.specs.KeyExpansion.{round_keys}
@@ -16,9 +16,9 @@ unfoldable pub aes : List ℕ → List ℕ → List ℕ
 aes key block = cipher (length key) (round_keys key) block
 
 -- the number of what the key expansion answers, rule 4.5: 1 for a key of another length
-abbrev pub key_number : KeyAnswer → ℕ
-key_number Expanded = 0
-key_number Refused = 1
+abbrev pub key_number : Result (Unit {0}) KeyRefusal → ℕ
+key_number (Ok u) = 0
+key_number (Err Length) = 1
 
 -- what the key expansion gives: 0 and the round keys of a key, or 1 and zeros
 pub record Expands (key : List ℕ) (r : Expansion) : Type 0 where

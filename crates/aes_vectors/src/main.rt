@@ -2,10 +2,7 @@
 // and keys of lengths that are refused.
 #![tactic(auto)]
 
-ghost use Rattle.std.specs.Prelude.{◌≤◌};
-ghost use Rattle.aes.specs.Engine.{Ready};
-
-use aes::{Engine, KeyAnswer};
+use aes::{Cipher, Engine, ExpandedKey};
 use fips197::{A1_KEY, A2_KEY, A3_KEY};
 use octets::Block;
 use std::io;
@@ -27,89 +24,60 @@ const C_KEY: [u8; 40] = [
 ];
 
 // Prints a key's expansion: all 240 bytes, so that the zeros past its own rounds show.
-fn expansion(out: &impl Print, engine: &Engine, label: &[u8], key: &[u8]) -> io::Result<()>
-    requires { Ready engine.now }
-{
+fn expansion(out: &impl Print, engine: &Engine, label: &[u8], key: &[u8]) -> io::Result<()> {
     printer::line(out, label, key)?;
-    let e = aes::expand(engine, key);
-    let keys = e.keys;
-    printer::rows(out, &keys)
+    printer::rows(out, &aes::expand(engine, key).keys)
 }
 
 // Prints the cipher of a block under a key, or that the key is refused.
+#[tactic(auto, using(aes::proofs::Widths::expanded_width))]
 fn encryption(
     out: &impl Print,
     engine: &Engine,
     label: &[u8],
     key: &[u8],
     block: Block,
-) -> io::Result<()>
-    requires { Ready engine.now }
-{
+) -> io::Result<()> {
     printer::text(out, label)?;
     let e = aes::expand(engine, key);
-    let width = key.len();
-    let keys = e.keys;
-    let answer = e.answer;
-    match answer {
-        KeyAnswer::Refused => printer::line(out, b" refused: round keys", &keys),
-        KeyAnswer::Expanded => {
-            if width <= 32 {
-                let r = aes::encrypt(engine, width, &keys, block);
-                let b = r.block;
-                printer::line(out, b"", &b)?;
-            }
-            Ok(())
+    match e.answer {
+        Err(_) => printer::line(out, b" refused: round keys", &e.keys),
+        Ok(()) => {
+            let key = ExpandedKey {
+                width: key.len(),
+                round_keys: &e.keys,
+            };
+            let cipher = Cipher { engine, key };
+            printer::line(out, b"", &cipher.encrypt(block).block)
         }
     }
 }
 
-fn appendix_a(out: &impl Print, engine: &Engine) -> io::Result<()>
-    requires { Ready engine.now }
-{
+fn appendix_a(out: &impl Print, engine: &Engine) -> io::Result<()> {
     expansion(out, engine, b"A.1", &A1_KEY)?;
     expansion(out, engine, b"A.2", &A2_KEY)?;
     expansion(out, engine, b"A.3", &A3_KEY)
 }
 
-fn appendix_c(out: &impl Print, engine: &Engine) -> io::Result<()>
-    requires { Ready engine.now }
-{
-    encryption(out, engine, b"C.1", &C_KEY[0..16], C)?;
-    encryption(out, engine, b"C.2", &C_KEY[0..24], C)?;
-    encryption(out, engine, b"C.3", &C_KEY[0..32], C)
+fn appendix_c(out: &impl Print, engine: &Engine) -> io::Result<()> {
+    encryption(out, engine, b"C.1", &C_KEY[..16], C)?;
+    encryption(out, engine, b"C.2", &C_KEY[..24], C)?;
+    encryption(out, engine, b"C.3", &C_KEY[..32], C)
 }
 
-// A key of n of appendix C's bytes.
-fn key_of(out: &impl Print, engine: &Engine, label: &[u8], n: usize) -> io::Result<()>
-    requires { Ready engine.now × (n ≤ 40) }
-{
-    encryption(out, engine, label, &C_KEY[0..n], C)
-}
-
-fn refused_short(out: &impl Print, engine: &Engine) -> io::Result<()>
-    requires { Ready engine.now }
-{
-    key_of(out, engine, b"0 bytes", 0)?;
-    key_of(out, engine, b"15 bytes", 15)?;
-    key_of(out, engine, b"17 bytes", 17)?;
-    key_of(out, engine, b"23 bytes", 23)
-}
-
-fn refused_long(out: &impl Print, engine: &Engine) -> io::Result<()>
-    requires { Ready engine.now }
-{
-    key_of(out, engine, b"25 bytes", 25)?;
-    key_of(out, engine, b"28 bytes", 28)?;
-    key_of(out, engine, b"31 bytes", 31)?;
-    key_of(out, engine, b"33 bytes", 33)
+// Keys of lengths that are refused: the first bytes of appendix C's.
+fn refused(out: &impl Print, engine: &Engine) -> io::Result<()> {
+    for n in [0, 15, 17, 23, 25, 28, 31, 33] {
+        print!(out; "{n} bytes")?;
+        encryption(out, engine, b"", &C_KEY[..n], C)?;
+    }
+    Ok(())
 }
 
 fn main(rt: HostRuntime) -> io::Result<()> {
-    let engine = aes::engine();
+    let engine = Engine::new();
     appendix_a(&rt, &engine)?;
     encryption(&rt, &engine, b"B", &A1_KEY, B)?;
     appendix_c(&rt, &engine)?;
-    refused_short(&rt, &engine)?;
-    refused_long(&rt, &engine)
+    refused(&rt, &engine)
 }

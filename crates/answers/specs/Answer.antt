@@ -1,10 +1,8 @@
 -- What a call answers: the table of docs/RULES.md, section 3.
 -- Assumes nothing.
-use Rattle.std.specs.Prelude.{◌≡◌, Bool, cond, List, [], ◌∷◌, ℕ, eqb}
+use Rattle.std.specs.Prelude.{◌≡◌, Bool, cond, List, [], ◌∷◌, ℕ, eqb, Result, Ok, Err}
 use Rattle.answers.specs.declared.Refusal.{Refusal}
 use Rattle.answers.specs.declared.Refusal.TheVariants.{KeyLength, HeaderCount, HeaderLengths, TooLong, SealedLength, OutputShort, ScratchShort, Forged, State, EmptyNonce, RingLength, HeaderPlan}
-use Rattle.answers.specs.declared.Answer.{Answer}
-use Rattle.answers.specs.declared.Answer.TheVariants.{Ok, Refused}
 
 -- the number and the length that a call returns, and its work in blocks
 pub record Outcome : Type 0 where
@@ -27,6 +25,14 @@ number_of EmptyNonce = 10
 number_of RingLength = 11
 number_of HeaderPlan = 12
 
+-- success with a count of bytes, or a refusal
+abbrev pub Answer : Type 0
+Answer = Result ℕ Refusal
+
+-- nothing that stands against a call, or the refusal that does
+abbrev pub Judgement : Type 0
+Judgement = Result (Unit {0}) Refusal
+
 -- success with a length and its work; a refusal by its number, with length 0 and no work; and 8, which has work.
 -- No refusal has the number 0: `refusal 0` is success with length 0 and no work
 abbrev pub success : ℕ → ℕ → Outcome
@@ -41,7 +47,12 @@ forged w = record { number = 8; count = 0; work = w }
 -- every answer's number and length, with the work reported beside it
 abbrev pub outcome_of : Answer → ℕ → Outcome
 outcome_of (Ok n) w = success n w
-outcome_of (Refused r) w = record { number = number_of r; count = 0; work = w }
+outcome_of (Err r) w = record { number = number_of r; count = 0; work = w }
+
+-- a judgement's number: 0 where nothing stands against the call, else the refusal's
+abbrev pub judged : Judgement → ℕ
+judged (Ok u) = 0
+judged (Err r) = number_of r
 
 -- a refusal with the condition under which it is due
 pub record Row : Type 0 where
@@ -65,6 +76,6 @@ settle n complete refused = cond (eqb n 0) complete (refused n)
 abbrev pub forged_or : {A : Type 0} → A → (ℕ → A) → ℕ → A
 forged_or forgery refused n = cond (eqb n 8) forgery (refused n)
 
--- an answer is the judgement of these rows: the first due one's refusal, or success with length 0
-abbrev pub Judges : List Row → Answer → Type 0
-Judges rows answer = outcome_of answer 0 ≡ refusal (first rows)
+-- a judgement is that of these rows: the first due one's refusal, or none
+abbrev pub Judges : List Row → Judgement → Type 0
+Judges rows judgement = judged judgement ≡ first rows

@@ -1,36 +1,23 @@
 -- Laws of doubling, padding, the chain and CMAC, over any block function E.
 -- Assumes nothing.
-use mathlib.Core.Path.{◌≡◌, refl, ap, ap₂, sym, subst, ◌∙◌}
+use mathlib.Core.Path.{◌≡◌, refl, ap, ap₂, sym, ◌∙◌}
 use mathlib.Core.Bool.{Bool, true, false, cond}
 use mathlib.Core.List.{List, [], ◌∷◌, ◌++◌}
-use Prim.Native.Nat.{ℕ, zero, suc, ◌+◌, ◌-◌, ◌*◌, ◌/◌, ◌%◌, ◌≤◌, ◌<◌}
-use native.Mathlib.Nat.{le_of_suc-le-suc, not-suc-le-zero, add-zero, add-suc, zero-add}
+use Prim.Native.Nat.{ℕ, zero, suc, ◌+◌, ◌-◌, ◌*◌, ◌≤◌, ◌<◌}
+use native.Mathlib.Nat.{le_of_suc-le-suc, not-suc-le-zero, add-zero, add-suc}
 use native.Mathlib.Numerals.{add-one}
 use native.Mathlib.Omega.{arith}
 use lib.Bits.{bit_xor}
 use lib.Dec.{ltb}
-use lib.ListN.{length, get_or, take, drop, set, replicate, length-append, length-drop, length-replicate, get_or-eq_default}
+use lib.ListN.{length, get_or, take, drop, set, replicate, length-append, length-drop, length-replicate}
 use lib.Seq.{drop-drop, drop_at, drop-append-le, take-append-le, append_snoc, length-take-le, take-suc}
-use Rattle.octets.specs.Octets.{xors, part}
-use Rattle.octets.proofs.Strings.{Written, written_more, written_all, put_all, length-xors, xors_nil, xors-zeros}
+use Rattle.octets.specs.Octets.{xors}
+use Rattle.octets.proofs.Strings.{length-xors, xors_nil, xors-zeros}
+use Rattle.cmac.proofs.Shift.{length-shifted}
 use Rattle.cmac.specs.declared.Subkeys.{Subkeys}
 use Rattle.cmac.specs.Cmac.{shifted, R, double, pad, PaddingFolds, last_block, blocks_before, chain, chain_work, cmac_from, cmac_work}
 
 -- ---- doubling
-
-length-shifted : (b : List ℕ) → length (shifted b) ≡ length b
-unfolding shifted
-length-shifted [] = refl
-length-shifted (b ∷ []) = refl
-length-shifted (b ∷ (c ∷ l)) = ap suc (length-shifted (c ∷ l))
-
-get_d_shifted : (b : List ℕ) (i : ℕ) → i < length b → get_or (shifted b) i 0 ≡ 2 * get_or b i 0 % 256 + get_or b (suc i) 0 / 128
-unfolding shifted
-get_d_shifted [] i h = absurd (not-suc-le-zero h)
-get_d_shifted (b ∷ []) zero h = sym (add-zero (2 * b % 256))
-get_d_shifted (b ∷ []) (suc i) h = absurd (not-suc-le-zero (le_of_suc-le-suc h))
-get_d_shifted (b ∷ (c ∷ l)) zero h = refl
-get_d_shifted (b ∷ (c ∷ l)) (suc i) h = get_d_shifted (c ∷ l) i (le_of_suc-le-suc h)
 
 pub length-double : (b : List ℕ) → length (double b) ≡ length b
 unfolding double
@@ -39,23 +26,6 @@ length-double b = go (ltb (get_or b 0 0) 128)
     go : (t : Bool) → length (cond t (shifted b) (xors (shifted b) R)) ≡ length b
     go true = length-shifted b
     go false = length-xors (shifted b) R ∙ length-shifted b
-
--- a turn of the loop that shifts: one byte more is written
-pub shifted_more : (b r : List ℕ) (i v : ℕ) → i < length b → v ≡ 2 * get_or b i 0 % 256 + get_or b (i + 1) 0 / 128
-    → Written b 0 (shifted b) r i → Written b 0 (shifted b) (set r i v) (i + 1)
-shifted_more b r i v h e w =
-    let byte : get_or (shifted b) i 0 ≡ v = get_d_shifted b i h ∙ ap (λ (n : ℕ). 2 * get_or b i 0 % 256 + get_or b n 0 / 128) (sym (add-one i)) ∙ sym e in
-    rw (zero-add i) at (written_more b 0 (shifted b) r i v (omega (arith, length-shifted b)) w (omega (arith, length-shifted b)) byte)
-
--- the last byte has nothing behind it
-pub shifted_last : (b r : List ℕ) (i v : ℕ) → length b ≡ 16 → i ≡ 15 → v ≡ 2 * get_or b 15 0 % 256 + 0 / 128 → Written b 0 (shifted b) r i → set r 15 v ≡ shifted b
-shifted_last b r i v long last e w =
-    let past : 0 ≡ get_or b 16 0 = sym (get_or-eq_default b 0 (omega arith)) in
-    let w' : Written b 0 (shifted b) r 15 = subst (Written b 0 (shifted b) r) last w in
-    written_all b 0 (shifted b) (set r 15 v) 16
-    (shifted_more b r 15 v (omega arith) (e ∙ ap (λ (n : ℕ). 2 * get_or b 15 0 % 256 + n / 128) past) w')
-    (omega (arith, length-shifted b))
-    ∙ put_all b (shifted b) (length-shifted b)
 
 -- ---- padding
 
@@ -98,11 +68,6 @@ cmac_work_lem s = ap (λ (n : ℕ). n + 1) (chain_work_lem (blocks_before (lengt
 -- ---- the chain
 
 module _ (E : List ℕ → List ℕ) where
-  -- one block more
-  pub chain_more : (c s : List ℕ) (n : ℕ) {b next : List ℕ} → b ≡ chain E c s n → next ≡ E (xors b (part s (16 * n) 16)) → next ≡ chain E c s (n + 1)
-  unfolding chain
-  chain_more c s n p q = q ∙ ap (λ (l : List ℕ). E (xors l (part s (16 * n) 16))) p ∙ ap (chain E c s) (sym (add-one n))
-
   -- the chain looks at whole blocks at the front alone
   pub chain_front : (c a b : List ℕ) (n : ℕ) → 16 * n ≤ length a → chain E c (a ++ b) n ≡ chain E c a n
   unfolding chain

@@ -1,15 +1,14 @@
 // CMAC with a 16-byte tag, SP 800-38B.
 #![tactic(auto)]
 
-ghost use Rattle.std.specs.Prelude.{◌≡◌, ◌+◌, ◌*◌, ◌/◌, ◌%◌, ◌≤◌, ◌<◌, length};
-ghost use Rattle.aes.specs.Cipher.{cipher};
-ghost use Rattle.aes.specs.Engine.{CanEncrypt};
+ghost use Rattle.std.specs.Prelude.{◌≡◌, ◌+◌, ◌*◌, ◌≤◌, ◌<◌, length};
+ghost use Rattle.aes.specs.Keyed.{enciphers};
 ghost use Rattle.aes.specs.Work.{Reports};
-ghost use Rattle.octets.specs.Octets.{xors, part};
-ghost use Rattle.cmac.specs.Cmac.{shifted, double, subkeys, pad, last_block, blocks_before};
-ghost use Rattle.cmac.specs.Cmac.{zero_cipher, zero_cipher_work, chain, chain_work, IsCmacFrom};
+ghost use Rattle.octets.specs.Octets.{xors};
+ghost use Rattle.cmac.specs.Cmac.{shifted, double, pad, last_block, blocks_before};
+ghost use Rattle.cmac.specs.Cmac.{zero_cipher, zero_cipher_work, chain, chain_work};
 
-use aes::{Counted, Engine, RoundKeys};
+use aes::{Cipher, Counted};
 use octets::Block;
 
 // K1 and K2.
@@ -19,35 +18,30 @@ pub struct Subkeys {
     pub k2: Block,
 }
 
+// What a MAC is made with.
+#[derive(Clone, Copy)]
+pub struct Mac<'e, 'k> {
+    pub cipher: Cipher<'e, 'k>,
+    pub subkeys: Subkeys,
+}
+
 // SP 800-38B, 5.3: R for blocks of 128 bits.
 const R: Block = [0, 0, 0, 0, 0, 0, 0, 0, 0, 0, 0, 0, 0, 0, 0, 0x87];
 
-// A byte moved left by one bit, with the top bit of the next.
-fn shifted_byte(b: u8, next: u8) -> u8
-    ensures { result ≡ 2 * b % 256 + next / 128 }
+// A block moved left by one bit. It is lent, since of a lent array a proof knows that each item is a byte.
+#[tactic(auto, using(crate::proofs::Shift::shifted_block))]
+fn shift_left(b: &Block) -> Block
+    ensures { result ≡ shifted b.now }
 {
-    b % 128 * 2 + next / 128
-}
-
-// A block moved left by one bit.
-fn shift_left(b: Block) -> Block
-    ensures { result ≡ shifted b }
-{
-    let mut r = b;
-    let mut i = 0;
-    while i < 15 {
-        r[i] = shifted_byte(b[i], b[i + 1]);
-        i += 1;
-    }
-    r[15] = shifted_byte(b[15], 0);
-    r
+    (u128::from_be_bytes(*b) << 1).to_be_bytes()
 }
 
 // A block doubled.
+#[tactic(auto, unfolding(crate::specs::Cmac::double))]
 pub fn double(b: Block) -> Block
     ensures { result ≡ double b }
 {
-    let s = shift_left(b);
+    let s = shift_left(&b);
     if b[0] < 128 {
         return s;
     }
@@ -55,20 +49,24 @@ pub fn double(b: Block) -> Block
 }
 
 // L: the cipher of the zero block.
-pub fn zero_cipher(engine: &Engine, width: usize, keys: &RoundKeys) -> Counted
-    requires { CanEncrypt engine.now width }
-    ensures { Reports (zero_cipher (cipher width keys.now)) zero_cipher_work result }
+pub fn zero_cipher(cipher: Cipher) -> Counted
+    ensures { Reports (zero_cipher (enciphers cipher.entry)) zero_cipher_work result }
 {
-    aes::encrypt(engine, width, keys, [0u8; 16])
+    cipher.encrypt([0u8; 16])
 }
 
-// The subkeys of L.
-pub fn make_subkeys(l: Block) -> Subkeys
-    ensures { result ≡ subkeys l }
-{
-    let k1 = double(l);
-    let k2 = double(k1);
-    Subkeys { k1, k2 }
+impl Subkeys {
+    ghost use Rattle.cmac.specs.Cmac.{subkeys};
+
+    // The subkeys of L.
+    #[tactic(auto, unfolding(crate::specs::Cmac::subkeys))]
+    pub fn of(l: Block) -> Subkeys
+        ensures { result ≡ subkeys l }
+    {
+        let k1 = double(l);
+        let k2 = double(k1);
+        Subkeys { k1, k2 }
+    }
 }
 
 // A block with a short string, and then one byte 80, xored into its front.
@@ -77,12 +75,10 @@ pub fn xor_padded(c: Block, s: &[u8]) -> Block
     ensures { result ≡ xors c (pad s.now) }
 {
     let mut r = c;
-    let mut i = 0;
-    while i < s.len() {
-        r[i] = r[i] ^ s[i];
-        i += 1;
+    for i in 0..s.len() {
+        r[i] ^= s[i];
     }
-    r[i] = r[i] ^ 0x80;
+    r[s.len()] ^= 0x80;
     r
 }
 
@@ -92,83 +88,50 @@ fn xor_last(k: Subkeys, c: Block, s: &[u8]) -> Block
     ensures { result ≡ xors c (last_block k s.now) }
 {
     if s.len() == 16 {
-        let k1 = k.k1;
-        return octets::xor_block(c, octets::xor_block(octets::load(s, 0), k1));
+        return octets::xor_block(c, octets::xor_block(octets::load(s, 0), k.k1));
     }
-    let k2 = k.k2;
-    octets::xor_block(xor_padded(c, s), k2)
+    octets::xor_block(xor_padded(c, s), k.k2)
 }
 
-// The chain with block n of a slice.
-fn absorb(engine: &Engine, width: usize, keys: &RoundKeys, c: Block, s: &[u8], n: usize) -> Counted
-    requires { CanEncrypt engine.now width × (16 * n + 16 ≤ length s.now) }
-    ensures { Reports (cipher width keys.now (xors c (part s.now (16 * n) 16))) 1 result }
+// The chain from c over the first n blocks of a slice. n stands beside it: callers chain the front of a longer string.
+#[tactic(auto, using(crate::proofs::Laws::chain_work_lem), unfolding(crate::specs::Cmac::chain, crate::specs::Cmac::chain_work))]
+pub fn chain_blocks(cipher: Cipher, c: Block, s: &[u8], n: usize) -> Counted
+    requires { 16 * n ≤ length s.now }
+    ensures { Reports (chain (enciphers cipher.entry) c s.now n) (chain_work n) result }
 {
-    aes::encrypt(
-        engine,
-        width,
-        keys,
-        octets::xor_block(c, octets::load(s, 16 * n)),
-    )
-}
-
-// The chain from c over the first n blocks of a slice.
-pub fn chain_blocks(
-    engine: &Engine,
-    width: usize,
-    keys: &RoundKeys,
-    c: Block,
-    s: &[u8],
-    n: usize,
-) -> Counted
-    requires { CanEncrypt engine.now width × (16 * n ≤ length s.now) }
-    ensures { Reports (chain (cipher width keys.now) c s.now n) (chain_work n) result }
-{
-    let mut block = c;
-    let mut work = 0;
-    let mut i = 0;
-    while i < n {
-        let next = absorb(engine, width, keys, block, s, i);
-        block = next.block;
-        work = work + next.work;
-        i += 1;
+    let mut chained = Counted { block: c, work: 0 };
+    for i in 0..n {
+        let next = cipher.encrypt(octets::xor_block(chained.block, octets::load(s, 16 * i)));
+        chained = Counted {
+            work: chained.work + next.work,
+            ..next
+        };
     }
-    Counted { block, work }
+    chained
 }
 
 // How many blocks stand before the last one of n bytes.
 fn blocks_before(n: usize) -> usize
     ensures { result ≡ blocks_before n }
 {
-    if n == 0 {
-        return 0;
-    }
-    (n - 1) / 16
+    n.saturating_sub(1) / 16
 }
 
-// CMAC of what was chained to c and then of s.
-pub fn cmac_from(
-    engine: &Engine,
-    width: usize,
-    keys: &RoundKeys,
-    k: Subkeys,
-    c: Block,
-    s: &[u8],
-) -> Counted
-    requires { CanEncrypt engine.now width }
-    ensures { IsCmacFrom (cipher width keys.now) k c s.now result }
-{
-    let n = blocks_before(s.len());
-    if n == 0 {
-        return aes::encrypt(engine, width, keys, xor_last(k, c, s));
-    }
-    let before = chain_blocks(engine, width, keys, c, s, n);
-    let b = before.block;
-    let at = 16 * n;
-    let last = aes::encrypt(engine, width, keys, xor_last(k, b, &s[at..]));
-    let block = last.block;
-    Counted {
-        block,
-        work: before.work + last.work,
+impl Mac<'_, '_> {
+    ghost use Rattle.aes.specs.Keyed.{enciphers};
+    ghost use Rattle.cmac.specs.Cmac.{IsCmacFrom};
+
+    // CMAC of what was chained to c and then of s.
+    pub fn cmac_from(self, c: Block, s: &[u8]) -> Counted
+        ensures { IsCmacFrom (enciphers self.entry.cipher) self.entry.subkeys c s.now result }
+    {
+        let n = blocks_before(s.len());
+        let before = chain_blocks(self.cipher, c, s, n);
+        let last = xor_last(self.subkeys, before.block, &s[16 * n..]);
+        let end = self.cipher.encrypt(last);
+        Counted {
+            work: before.work + end.work,
+            ..end
+        }
     }
 }

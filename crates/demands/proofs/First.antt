@@ -14,11 +14,10 @@ use borrow.Author.Tests.{eqb-true, eqb-false, eq-eqb, ne_eqb, not-false}
 use Rattle.octets.specs.Octets.{put}
 use Rattle.cmac.specs.Cmac.{zeros}
 use Rattle.header.specs.Header.{total, strings}
-use Rattle.answers.specs.declared.Answer.{Answer}
-use Rattle.answers.specs.declared.Answer.TheVariants.{Ok, Refused}
+use Rattle.std.specs.Prelude.{Ok, Err}
 use Rattle.answers.specs.declared.Refusal.{Refusal}
 use Rattle.answers.specs.declared.Refusal.TheVariants.{KeyLength, HeaderCount, HeaderLengths, TooLong, SealedLength, OutputShort, ScratchShort, Forged, State, EmptyNonce, RingLength, HeaderPlan}
-use Rattle.answers.specs.Answer.{Outcome, Row, row, first, settle, forged_or, number_of, outcome_of}
+use Rattle.answers.specs.Answer.{Answer, Outcome, Row, row, first, settle, forged_or, number_of, outcome_of}
 use Rattle.answers.proofs.Laws.{first_not, first_pass, first_stop, first_none, refusal_number, outcome_work, none_where}
 use Rattle.whole.specs.Calls.{CallResult, is_key_length, limit, header_rows, seal_rows, open_rows, refused_call, sealed_call, opened_call, forged_call, seal_number, seal_call, open_number, open_call}
 use Rattle.whole.specs.Ring.{slot_count, slot_key, ring_rows, tried_work, RingResult, open_slot, opens_at, work_at}
@@ -392,10 +391,10 @@ by_number HeaderPlan = refl
 
 answer_tells : (a b : Answer) (w w' : ℕ) → outcome_of a w ≡ outcome_of b w' → a ≡ b
 answer_tells (Ok m) (Ok n) w w' e = ap (λ (k : ℕ). Ok k) (ap (λ (o : Outcome). o.count) e)
-answer_tells (Ok m) (Refused r) w w' e = absurd (refusal_number r (sym (ap (λ (o : Outcome). o.number) e)))
-answer_tells (Refused r) (Ok n) w w' e = absurd (refusal_number r (ap (λ (o : Outcome). o.number) e))
-answer_tells (Refused r) (Refused s) w w' e =
-    ap (λ (x : Refusal). Refused x) (sym (by_number r) ∙ ap (λ (o : Outcome). refusal_of o.number) e ∙ by_number s)
+answer_tells (Ok m) (Err r) w w' e = absurd (refusal_number r (sym (ap (λ (o : Outcome). o.number) e)))
+answer_tells (Err r) (Ok n) w w' e = absurd (refusal_number r (ap (λ (o : Outcome). o.number) e))
+answer_tells (Err r) (Err s) w w' e =
+    ap (λ (x : Refusal). Err x) (sym (by_number r) ∙ ap (λ (o : Outcome). refusal_of o.number) e ∙ by_number s)
 
 outcome_tells : (a b : Answer) (w w' : ℕ) → outcome_of a w ≡ outcome_of b w' → (a ≡ b) × (w ≡ w')
 outcome_tells a b w w' e = (answer_tells a b w w' e, sym (outcome_work a w) ∙ ap (λ (o : Outcome). o.work) e ∙ outcome_work b w')

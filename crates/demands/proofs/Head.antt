@@ -10,7 +10,7 @@ use lib.Dec.{eqb, ltb}
 use lib.ListN.{length, take, drop, length-append, length-drop, take-append-drop}
 use lib.Seq.{length-take-le, take_at, drop_at}
 use borrow.Author.Tests.{eqb-true, eq-eqb, le-ltb}
-use Rattle.octets.proofs.Tests.{bool_ext}
+use Rattle.std.specs.Cmp.{both_ways}
 use Rattle.cmac.specs.Cmac.{zeros}
 use Rattle.header.specs.Header.{total, strings}
 use Rattle.header.specs.Blocks.{blocks_of_all}
@@ -77,7 +77,7 @@ module _ (key bytes lens more moreLens : List ℕ) (a : Admits key bytes lens) w
 
       alike_sums : eqb (total moreLens) (length more) ≡ eqb (total (lens ++ moreLens)) (length (bytes ++ more))
       alike_sums =
-          bool_ext (eqb (total moreLens) (length more)) (eqb (total (lens ++ moreLens)) (length (bytes ++ more)))
+          both_ways (eqb (total moreLens) (length more)) (eqb (total (lens ++ moreLens)) (length (bytes ++ more)))
           (λ e. eq-eqb (total (lens ++ moreLens)) (length (bytes ++ more)) (omega (arith, joint, length-append bytes more, eqb-true (total moreLens) (length more) e)))
           (λ e. eq-eqb (total moreLens) (length more) (omega (arith, joint, length-append bytes more, eqb-true (total (lens ++ moreLens)) (length (bytes ++ more)) e)))
 

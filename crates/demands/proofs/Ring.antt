@@ -6,17 +6,19 @@ use mathlib.Core.List.{List, [], ◌∷◌}
 use Prim.Native.Nat.{ℕ, zero, suc, ◌+◌, ◌-◌, ◌*◌, ◌≤◌, ◌<◌, max}
 use native.Mathlib.Decide.{dec_le}
 use native.Mathlib.Nat.{zero-add, zero-mul, suc-add, add-suc, add-zero}
+use native.Mathlib.Numerals.{add-one}
 use native.Mathlib.Omega.{arith}
-use lib.Dec.{eqb, ltb}
+use lib.Dec.{eqb}
 use lib.ListN.{length, take, drop}
 use lib.Seq.{take-length}
-use borrow.Author.Tests.{eqb-true, eq-eqb, ne_eqb, lt-ltb, le-ltb}
+use borrow.Author.Tests.{eqb-true, eq-eqb, ne_eqb}
+use Rattle.std.specs.Prelude.{Some, None}
 use Rattle.header.specs.Header.{strings}
 use Rattle.answers.specs.Answer.{Outcome, first}
 use Rattle.whole.specs.Calls.{is_key_length, open_number, open_call}
 use Rattle.whole.specs.declared.Found.{Found}
 use Rattle.whole.specs.Ring.{is_ring, slot_count, slot_key, ring_rows, try_slots, tried_work, RingResult, open_slot, opens_at, work_at, open_slot_with, open_ring}
-use Rattle.whole.proofs.Ring.{key_length_some, whole_ring, slot_keyed, Chosen, found, none, chosen_within, chosen_tried, RingCase, tries, refuses, open_ring_case, ring_work_lem}
+use Rattle.whole.proofs.Ring.{key_length_some, whole_ring, slot_keyed, Chosen, found, none, chosen_within, chosen_tried, tried_to, RingCase, tries, refuses, open_ring_case, ring_work_lem}
 use Rattle.kinphlor.specs.Interface.{empty_nonce, from_c, open_from_c, empty_nonce_ring, open_ring_from_c}
 use Rattle.demands.specs.Figures.{IsKeyLength, sum, whole_work}
 use Rattle.demands.specs.Ring.{IsRing, Opens, works_of, BySlot, SealsUnder, ThirdRing, Ring}
@@ -60,11 +62,8 @@ module _ (key_length slots : ℕ) (ring bytes lens input output scratch : List �
   -- trying n slots from i on, after the works of those before, ends with the works of all that were tried
   tried_works : (i before n : ℕ) → before ≡ works_of key_length slots ring bytes lens input output scratch i
       → let found = try_slots (opens_at key_length ring bytes lens input output scratch) (work_at key_length ring bytes lens input output scratch) i before n in
-      found.work ≡ works_of key_length slots ring bytes lens input output scratch (found.slot + cond (ltb found.slot (i + n)) 1 0)
-  tried_works i before zero e =
-      e
-      ∙ ap (works_of key_length slots ring bytes lens input output scratch)
-      (sym (add-zero i) ∙ ap (λ (t : Bool). i + cond t 1 0) (sym (le-ltb i (i + 0) (omega arith))))
+      found.work ≡ works_of key_length slots ring bytes lens input output scratch (tried_to (i + n) found.slot)
+  tried_works i before zero e = e ∙ ap (works_of key_length slots ring bytes lens input output scratch) (sym (add-zero i))
   tried_works i before (suc n) e =
       go (opens_at key_length ring bytes lens input output scratch i)
       (tried_works (suc i) (before + work_at key_length ring bytes lens input output scratch i) n (ap (λ (w : ℕ). w + work_at key_length ring bytes lens input output scratch i) e))
@@ -72,14 +71,13 @@ module _ (key_length slots : ℕ) (ring bytes lens input output scratch : List �
       rest : Found
       rest = try_slots (opens_at key_length ring bytes lens input output scratch) (work_at key_length ring bytes lens input output scratch) (suc i) (before + work_at key_length ring bytes lens input output scratch i) n
 
-      go : (t : Bool) → rest.work ≡ works_of key_length slots ring bytes lens input output scratch (rest.slot + cond (ltb rest.slot (suc i + n)) 1 0)
-          → let found = cond t (record { slot = i; work = before + work_at key_length ring bytes lens input output scratch i }) rest in
-          found.work ≡ works_of key_length slots ring bytes lens input output scratch (found.slot + cond (ltb found.slot (i + suc n)) 1 0)
+      go : (t : Bool) → rest.work ≡ works_of key_length slots ring bytes lens input output scratch (tried_to (suc i + n) rest.slot)
+          → let found = cond t (record { slot = Some i; work = before + work_at key_length ring bytes lens input output scratch i }) rest in
+          found.work ≡ works_of key_length slots ring bytes lens input output scratch (tried_to (i + suc n) found.slot)
       go true ih =
           ap (λ (w : ℕ). w + work_at key_length ring bytes lens input output scratch i) e
-          ∙ ap (works_of key_length slots ring bytes lens input output scratch)
-          (sym (add-suc i 0 ∙ ap suc (add-zero i)) ∙ ap (λ (t : Bool). i + cond t 1 0) (sym (lt-ltb i (i + suc n) (omega arith))))
-      go false ih = ih ∙ ap (λ (m : ℕ). works_of key_length slots ring bytes lens input output scratch (rest.slot + cond (ltb rest.slot m) 1 0)) (suc-add i n ∙ sym (add-suc i n))
+          ∙ ap (works_of key_length slots ring bytes lens input output scratch) (sym (add-one i))
+      go false ih = ih ∙ ap (λ (m : ℕ). works_of key_length slots ring bytes lens input output scratch (tried_to m rest.slot)) (suc-add i n ∙ sym (add-suc i n))
 
   by_slot : 1 ≤ slots → (s : ℕ) → Chosen (opens_at key_length ring bytes lens input output scratch) slots s
       → BySlot key_length slots ring bytes lens input output scratch (given key_length slots ring bytes lens input output scratch s)
@@ -124,7 +122,7 @@ module _ (key bytes lens input output scratch : List ℕ) where
   one : (test : ℕ → Bool) (work : ℕ → ℕ) → tried_work test work 0 1 ≡ work 0
   one test work = go (test 0)
     where
-      go : (t : Bool) → ◌≡◌ {A = ℕ} (cond {A = Found} t (record { slot = 0; work = 0 + work 0 }) (record { slot = 1; work = 0 + work 0 })).work (work 0)
+      go : (t : Bool) → ◌≡◌ {A = ℕ} (cond {A = Found} t (record { slot = Some 0; work = 0 + work 0 }) (record { slot = None; work = 0 + work 0 })).work (work 0)
       go true = zero-add (work 0)
       go false = zero-add (work 0)
 

@@ -2,12 +2,10 @@
 -- with state and buffers as rules 3.4 and 3.5 say, and the work of rules 15.2 to 15.5.
 -- The six piecewise calls' table, with 9 in full, and what they give and leave are in Steps.antt.
 -- Assumes nothing.
-use Rattle.std.specs.Prelude.{◌≡◌, true, cond, List, [], ◌∷◌, ◌⊎◌, ℕ, ◌+◌, ◌-◌, ◌*◌, ◌/◌, ◌%◌, ◌≤◌, ◌<◌, max, eqb, length, take, drop, replicate, get_or}
+use Rattle.std.specs.Prelude.{◌≡◌, true, cond, List, [], ◌∷◌, ◌⊎◌, ℕ, ◌+◌, ◌-◌, ◌*◌, ◌/◌, ◌%◌, ◌≤◌, ◌<◌, max, eqb, length, take, drop, replicate, get_or, Ok, Err}
 use Rattle.header.specs.Header.{strings}
-use Rattle.answers.specs.declared.Answer.{Answer}
-use Rattle.answers.specs.declared.Answer.TheVariants.{Ok, Refused}
 use Rattle.answers.specs.declared.Refusal.TheVariants.{KeyLength, HeaderCount, HeaderLengths, TooLong, SealedLength, OutputShort, ScratchShort, Forged, State, EmptyNonce, RingLength, HeaderPlan}
-use Rattle.answers.specs.Answer.{Outcome, outcome_of}
+use Rattle.answers.specs.Answer.{Answer, Outcome, outcome_of}
 use Rattle.worst_header.specs.WorstHeader.{GivesWorst}
 use Rattle.whole.specs.Calls.{CallResult, seal_call, open_call}
 use Rattle.whole.specs.Ring.{RingResult, open_ring}
@@ -28,18 +26,18 @@ use Rattle.demands.specs.Table.{answered, Row, row, order, keeps, FirstDue, ByTa
 -- every case of an answer has its number, rules 2.4 and 3.1; a refusal has length 0
 pub record Numbers (w : ℕ) : Type 0 where
   pub ok : (n : ℕ) → outcome_of (Ok n) w ≡ answered 0 n w
-  pub key_length : outcome_of (Refused KeyLength) w ≡ answered 1 0 w
-  pub header_count : outcome_of (Refused HeaderCount) w ≡ answered 2 0 w
-  pub header_lengths : outcome_of (Refused HeaderLengths) w ≡ answered 3 0 w
-  pub too_long : outcome_of (Refused TooLong) w ≡ answered 4 0 w
-  pub sealed_length : outcome_of (Refused SealedLength) w ≡ answered 5 0 w
-  pub output_short : outcome_of (Refused OutputShort) w ≡ answered 6 0 w
-  pub scratch_short : outcome_of (Refused ScratchShort) w ≡ answered 7 0 w
-  pub forged : outcome_of (Refused Forged) w ≡ answered 8 0 w
-  pub state : outcome_of (Refused State) w ≡ answered 9 0 w
-  pub empty_nonce : outcome_of (Refused EmptyNonce) w ≡ answered 10 0 w
-  pub ring_length : outcome_of (Refused RingLength) w ≡ answered 11 0 w
-  pub header_plan : outcome_of (Refused HeaderPlan) w ≡ answered 12 0 w
+  pub key_length : outcome_of (Err KeyLength) w ≡ answered 1 0 w
+  pub header_count : outcome_of (Err HeaderCount) w ≡ answered 2 0 w
+  pub header_lengths : outcome_of (Err HeaderLengths) w ≡ answered 3 0 w
+  pub too_long : outcome_of (Err TooLong) w ≡ answered 4 0 w
+  pub sealed_length : outcome_of (Err SealedLength) w ≡ answered 5 0 w
+  pub output_short : outcome_of (Err OutputShort) w ≡ answered 6 0 w
+  pub scratch_short : outcome_of (Err ScratchShort) w ≡ answered 7 0 w
+  pub forged : outcome_of (Err Forged) w ≡ answered 8 0 w
+  pub state : outcome_of (Err State) w ≡ answered 9 0 w
+  pub empty_nonce : outcome_of (Err EmptyNonce) w ≡ answered 10 0 w
+  pub ring_length : outcome_of (Err RingLength) w ≡ answered 11 0 w
+  pub header_plan : outcome_of (Err HeaderPlan) w ≡ answered 12 0 w
 
 -- ---- the header list
 

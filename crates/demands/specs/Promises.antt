@@ -1,10 +1,10 @@
 -- What the calls' promises say, in parts: with the arguments as they came, answer, slot, head and state
 -- are the definition's, and so are the lent buffers as they are left. Which definition it is stands in the contract.
 -- Assumes nothing.
-use Rattle.std.specs.Prelude.{◌≡◌, List, ℕ, length, replicate}
+use Rattle.std.specs.Prelude.{◌≡◌, List, ℕ, length, replicate, Ok, Err}
 use Rattle.octets.specs.Octets.{Lent, LentMut}
 use Rattle.aes.specs.declared.Expansion.{Expansion}
-use Rattle.aes.specs.declared.KeyAnswer.TheVariants.{Expanded, Refused}
+use Rattle.aes.specs.declared.KeyRefusal.TheVariants.{Length}
 use Rattle.aes.specs.Aes.{key_number, Expands}
 use Rattle.answers.specs.Answer.{outcome_of}
 use Rattle.whole.specs.declared.Report.{Report}
@@ -47,6 +47,6 @@ pub record Promises : Type 0 where
       → let r = open_ring_from_c key_length keys.entry.now header.entry.now ad nonce input.entry.now output.entry.now scratch.entry.now in
       (given ≡ packed_ring r.slot r.call.outcome) × (output.exit.now ≡ r.call.output) × (scratch.exit.now ≡ r.call.scratch)
   -- the key expansion: 0 and the round keys of a key of 16, 24 or 32 bytes, 1 and zeros for another
-  pub numbers : (key_number Expanded ≡ 0) × (key_number Refused ≡ 1)
+  pub numbers : (key_number (Ok tt) ≡ 0) × (key_number (Err Length) ≡ 1)
   pub expanded : (key : List ℕ) (r : Expansion) → Expands key r → IsKeyWidth (length key) → (key_number r.answer ≡ 0) × (r.keys ≡ key_bytes key)
   pub refused : (key : List ℕ) (r : Expansion) → Expands key r → (IsKeyWidth (length key) → ⊥) → (key_number r.answer ≡ 1) × (r.keys ≡ replicate 240 0)

@@ -1,24 +1,35 @@
 -- Laws of counter mode, for any block function: the next counter block byte by byte, the work, undoing,
 -- and a loop that writes a block a turn.
 -- Assumes nothing.
-use Rattle.std.proofs.Common.{◌≡◌, ℕ, zero, suc, ◌+◌, ◌-◌, ◌*◌, ◌/◌, ◌%◌, ◌^◌, ◌<◌, ◌≤◌, min, List, [], ◌∷◌, ◌++◌, length, get_or, take, drop, set, sym, refl, ap, ◌∙◌, ap₂, append-nil, arith, length-drop, drop_of_length-le, length-take-le, take_all, drop-drop}
-use native.Mathlib.Decide.{dec_lt}
-use Rattle.octets.specs.Octets.{xors, put, part}
-use Rattle.octets.specs.LittleEndian.{read_little_endian}
-use Rattle.octets.proofs.Strings.{length-xors, xors_undo, xors_behind, put_nil, put-put}
+use Rattle.std.proofs.Common.{◌≡◌, ℕ, zero, suc, ◌+◌, ◌*◌, ◌%◌, ◌^◌, ◌<◌, ◌≤◌, min, List, [], ◌∷◌, ◌++◌, length, get_or, drop, sym, refl, ap, ◌∙◌, ap₂, append-nil, arith, drop_of_length-le, length-append, take_all}
+use Rattle.octets.specs.Octets.{xors, put}
+use Rattle.octets.specs.LittleEndian.{read_little_endian, little_endian}
+use Rattle.octets.proofs.Tests.{agree}
+use Rattle.std.specs.Int.{w32, from_le_bytes, to_le_bytes}
+use native.Mathlib.Nat.{div-div-eq-div-mul}
+use lib.Bits.{bit_or}
+use Rattle.octets.proofs.Strings.{length-xors, xors_undo, xors-append, xors_behind, put_nil, put-put}
 use Rattle.gcm_ctr.specs.CounterMode.{next_block, stream_from, stream_from_work, blocks_begun, aes_ctr, aes_ctr_work}
 
--- ---- the next counter block
+-- ---- the counter blocks
 
--- four bytes written to the front of a block
-pub next_bytes : (b : List ℕ) (w : ℕ) → 4 ≤ length b → w ≡ (read_little_endian (get_or b 0 0 ∷ get_or b 1 0 ∷ get_or b 2 0 ∷ get_or b 3 0 ∷ []) + 1) % 2 ^ 32
-    → set (set (set (set b 0 (w % 256)) 1 (w / 256 % 256)) 2 (w / 256 / 256 % 256)) 3 (w / 256 / 256 / 256 % 256) ≡ next_block b
+pub top_bit_set : (b : ℕ) → b < 256 → bit_or b 128 ≡ b % 128 + 128
+top_bit_set = agree 256 (λ k. bit_or k 128) (λ k. k % 128 + 128) refl
+
+bytes_of_word : (w : ℕ) → to_le_bytes w32 w ≡ little_endian 4 w
+bytes_of_word w = simp div-div-eq-div-mul
+
+-- a block whose first four bytes are those of the word after theirs, m
+pub next_bytes : (b : List ℕ) (m : ℕ) → 4 ≤ length b → m ≡ from_le_bytes w32 (get_or b 0 0 ∷ get_or b 1 0 ∷ get_or b 2 0 ∷ get_or b 3 0 ∷ [])
+    → to_le_bytes w32 ((m + 1) % 2 ^ 32) ++ drop 4 b ≡ next_block b
 unfolding next_block
-next_bytes [] w h e = absurd (omega arith)
-next_bytes (a ∷ []) w h e = absurd (omega arith)
-next_bytes (a ∷ b ∷ []) w h e = absurd (omega arith)
-next_bytes (a ∷ b ∷ c ∷ []) w h e = absurd (omega arith)
-next_bytes (a ∷ b ∷ c ∷ d ∷ l) w h e = ap (λ (x : ℕ). x % 256 ∷ x / 256 % 256 ∷ x / 256 / 256 % 256 ∷ x / 256 / 256 / 256 % 256 ∷ l) e
+next_bytes [] m h e = absurd (omega arith)
+next_bytes (a ∷ []) m h e = absurd (omega arith)
+next_bytes (a ∷ b ∷ []) m h e = absurd (omega arith)
+next_bytes (a ∷ b ∷ c ∷ []) m h e = absurd (omega arith)
+next_bytes (a ∷ b ∷ c ∷ d ∷ l) m h e =
+    let word : m ≡ read_little_endian (a ∷ b ∷ c ∷ d ∷ []) = omega arith in
+    ap (λ (t : List ℕ). t ++ l) (bytes_of_word ((m + 1) % 2 ^ 32)) ∙ ap (λ (n : ℕ). little_endian 4 ((n + 1) % 2 ^ 32) ++ l) word
 
 -- ---- the work
 
@@ -45,70 +56,59 @@ aes_ctr_undo E block s =
 
 -- ---- a block a turn
 
--- `&s[at..end]` with the block's end, or the string's
-pub block_part : (s : List ℕ) (at end : ℕ) → end ≡ at + min 16 (length s - at) → take (end - at) (drop at s) ≡ part s at 16
-block_part s at end e = go (dec_lt (length s - at) 16)
-  where
-    go : Dec (length s - at < 16) → take (end - at) (drop at s) ≡ part s at 16
-    go (yes h) = take_all (end - at) (drop at s) (simp length-drop (omega arith)) ∙ sym (take_all 16 (drop at s) (simp length-drop (omega arith)))
-    go (no h) = let count : end - at ≡ 16 = omega arith in ap (λ (n : ℕ). take n (drop at s)) count
-
--- a block's part of a string, xored and written, and what is behind it
-put_front : (now rest k more : List ℕ) (at : ℕ) → length k ≡ 16 → at + length rest ≤ length now
-    → put (put now at (xors (take 16 rest) k)) (at + 16) (xors (drop 16 rest) more) ≡ put now at (xors rest (k ++ more))
+-- a piece of a string, a whole block where more is behind it, xored and written, and then what is behind it
+put_front : (now piece more k X : List ℕ) (at : ℕ) → length k ≡ 16 → length piece ≡ min 16 (length (piece ++ more)) → at + length (piece ++ more) ≤ length now
+    → put (put now at (xors piece k)) (at + 16) (xors more X) ≡ put now at (xors (piece ++ more) (k ++ X))
 unfolding xors
-put_front now rest k more at sized fits = go (dec_lt (length rest) 16) ∙ ap (put now at) (sym split)
-  where
-    split : xors rest (k ++ more) ≡ xors (take 16 rest) k ++ xors (drop 16 rest) more
-    split = xors_behind rest k more ∙ ap (λ (n : ℕ). xors (take n rest) k ++ xors (drop n rest) more) sized
+put_front now piece [] k X at sized size fits =
+    let all : length piece ≤ length k = omega (arith, size, ap length (append-nil piece)) in
+    put_nil (put now at (xors piece k)) (at + 16)
+    ∙ ap (put now at)
+    (sym (ap (λ (t : List ℕ). xors t (k ++ X)) (append-nil piece)
+    ∙ xors_behind piece k X
+    ∙ ap₂ (λ (a b : List ℕ). xors a k ++ xors b X) (take_all (length k) piece all) (drop_of_length-le piece all)
+    ∙ append-nil (xors piece k)))
+put_front now piece (x ∷ more) k X at sized size fits =
+    let full : length piece ≡ 16 = omega (arith, size, length-append piece (x ∷ more)) in
+    let place : at + 16 ≡ at + length (xors piece k) = omega (arith, full, length-xors piece k) in
+    ap (λ (n : ℕ). put (put now at (xors piece k)) n (xors (x ∷ more) X)) place
+    ∙ put-put now at (xors piece k) (xors (x ∷ more) X) (omega (arith, fits, length-xors piece k, length-append piece (x ∷ more)))
+    ∙ ap (put now at) (sym (xors-append piece (x ∷ more) k X (full ∙ sym sized)))
 
-    go : Dec (length rest < 16) → put (put now at (xors (take 16 rest) k)) (at + 16) (xors (drop 16 rest) more) ≡ put now at (xors (take 16 rest) k ++ xors (drop 16 rest) more)
-    go (yes h) =
-        let none : drop 16 rest ≡ [] = drop_of_length-le rest {i = 16} (omega arith) in
-        ap (λ (t : List ℕ). put (put now at (xors (take 16 rest) k)) (at + 16) (xors t more)) none
-        ∙ put_nil (put now at (xors (take 16 rest) k)) (at + 16)
-        ∙ ap (put now at) (sym (append-nil (xors (take 16 rest) k)) ∙ ap (λ (t : List ℕ). xors (take 16 rest) k ++ xors t more) (sym none))
-    go (no h) =
-        let full : length (xors (take 16 rest) k) ≡ 16 = length-xors (take 16 rest) k ∙ length-take-le 16 rest (omega arith) in
-        ap (λ (n : ℕ). put (put now at (xors (take 16 rest) k)) (at + n) (xors (drop 16 rest) more)) (sym full)
-        ∙ put-put now at (xors (take 16 rest) k) (xors (drop 16 rest) more) (omega arith)
-
--- what is written when the first j blocks are, and the rest is still to come from a counter block on
-pub record Coming (E : List ℕ → List ℕ) (s l : List ℕ) (total : List ℕ) (now counter : List ℕ) (j : ℕ) : Type 0 where
-  pub long : length now ≡ length l
-  pub bytes : put now (16 * j) (xors (drop (16 * j) s) (stream_from E counter (blocks_begun (length s) - j))) ≡ put l 0 total
+-- what is written when the first j blocks are, and `rest` is still to come from a counter block on
+pub record Coming (E : List ℕ → List ℕ) (s l total now rest counter : List ℕ) (j : ℕ) : Type 0 where
+  pub begun : j + blocks_begun (length rest) ≡ blocks_begun (length s)
+  pub fits : 0 < length rest → 16 * j + length rest ≤ length l
+  pub bytes : put now (16 * j) (xors rest (stream_from E counter (blocks_begun (length rest)))) ≡ put l 0 total
 
 module _ (E : List ℕ → List ℕ) (sized : (b : List ℕ) → length (E b) ≡ 16) (s l : List ℕ) where
-  pub coming_all : (block : List ℕ) → Coming E s l (aes_ctr E block s) l block 0
+  pub coming_all : (block : List ℕ) → length s ≤ length l → Coming E s l (aes_ctr E block s) l s block 0
   unfolding aes_ctr
-  coming_all block =
-      let count : blocks_begun (length s) - 0 ≡ blocks_begun (length s) = omega arith in
-      record { long = refl; bytes = ap (λ (n : ℕ). put l 0 (xors s (stream_from E block n))) count }
+  coming_all block fits = record { begun = omega arith; fits = λ h. omega arith; bytes = refl }
 
-  -- the turn of block j
-  pub coming_more : (total now next counter following : List ℕ) (j : ℕ) → 16 * j < length s → length s ≤ length l → Coming E s l total now counter j
-      → length next ≡ length now → next ≡ put now (16 * j) (xors (part s (16 * j) 16) (E counter)) → following ≡ next_block counter
-      → Coming E s l total next following (j + 1)
+  -- the turn of a piece
+  pub coming_more : {total now next rest more counter following : List ℕ} {j q : ℕ} (k : ℕ) (piece : List ℕ) → Coming E s l total now rest counter j → next ≡ put now q (xors piece (E counter))
+      → following ≡ next_block counter → rest ≡ piece ++ more → length piece ≡ min 16 (length rest) → 0 < length rest → k ≡ j + 1 → q ≡ 16 * j → length now ≡ length l
+      → Coming E s l total next more following k
   unfolding stream_from
-  coming_more total now next counter following j some fits r same e is =
-      let rest : List ℕ = drop (16 * j) s in
-      let m : ℕ = blocks_begun (length s) - (j + 1) in
-      let more : List ℕ = stream_from E (next_block counter) m in
-      let place : 16 * (j + 1) ≡ 16 * j + 16 = omega arith in
-      let count : blocks_begun (length s) - j ≡ suc m = omega arith in
+  coming_more {now = now} {rest = rest} {more = more} {counter = counter} {following = following} {j = j} k piece r e is split size some count place long =
+      let long' : length rest ≡ length piece + length more = ap length split ∙ length-append piece more in
+      let m : ℕ = blocks_begun (length more) in
+      let begun : blocks_begun (length rest) ≡ suc m = omega arith in
+      let behind : 16 * k ≡ 16 * j + 16 = omega arith in
       record {
-        long = same ∙ r.long;
+        begun = omega (arith, r.begun);
+        fits = λ h. omega (arith, r.fits);
         bytes =
-            ap₂ (λ (n : ℕ) (d : List ℕ). put d n (xors (drop n s) (stream_from E following m))) place e
-            ∙ ap₂ (λ (t k : List ℕ). put (put now (16 * j) (xors (take 16 rest) (E counter))) (16 * j + 16) (xors t (stream_from E k m))) (sym (drop-drop 16 (16 * j) s)) is
-            ∙ put_front now rest (E counter) more (16 * j) (sized counter) (simp length-drop (omega (arith, r.long)))
-            ∙ ap (λ (n : ℕ). put now (16 * j) (xors rest (stream_from E counter n))) (sym count)
+            ap₂ (λ (n : ℕ) (d : List ℕ). put d n (xors more (stream_from E following m))) behind (e ∙ ap (λ (n : ℕ). put now n (xors piece (E counter))) place)
+            ∙ ap (λ (b : List ℕ). put (put now (16 * j) (xors piece (E counter))) (16 * j + 16) (xors more (stream_from E b m))) is
+            ∙ put_front now piece more (E counter) (stream_from E (next_block counter) m) (16 * j) (sized counter) (size ∙ ap (λ (t : List ℕ). min 16 (length t)) split) (omega (arith, r.fits, length-append piece more))
+            ∙ ap₂ (λ (t : List ℕ) (n : ℕ). put now (16 * j) (xors t (stream_from E counter n))) (sym split) (sym begun)
             ∙ r.bytes;
       }
 
-  pub coming_none : (total now counter : List ℕ) (j : ℕ) → length s ≤ 16 * j → Coming E s l total now counter j → now ≡ put l 0 total
+  pub coming_none : {total now counter : List ℕ} {j : ℕ} (rest : List ℕ) → Coming E s l total now rest counter j → length rest ≡ 0
+      → (j ≡ blocks_begun (length s)) × (now ≡ put l 0 total)
   unfolding xors
-  coming_none total now counter j done r =
-      sym (put_nil now (16 * j))
-      ∙ ap (λ (t : List ℕ). put now (16 * j) (xors t (stream_from E counter (blocks_begun (length s) - j)))) (sym (drop_of_length-le s done))
-      ∙ r.bytes
+  coming_none {now = now} {j = j} [] r none = (omega (arith, r.begun), sym (put_nil now (16 * j)) ∙ r.bytes)
+  coming_none (x ∷ rest) r none = absurd (omega arith)

@@ -8,8 +8,11 @@ use native.Mathlib.Decide.{dec_lt}
 use native.Mathlib.Nat.{zero-add}
 use native.Mathlib.Omega.{arith}
 use lib.Dec.{eqb, ltb}
-use lib.ListN.{length, length-append}
+use lib.ListN.{length, replicate, length-append}
 use borrow.Author.Tests.{eqb-true, lt-ltb, le-ltb, ltb-false, not-true, not-false}
+use Rattle.std.specs.Array.{AllOfLen}
+use Rattle.std.proofs.lemmas.Grind.{same_number_lists}
+use Rattle.std.proofs.lemmas.List.{length-replicate, get_or-replicate}
 use Rattle.aes.specs.Aes.{is_width}
 use Rattle.aes.specs.Cipher.{cipher}
 use Rattle.aes.specs.KeyExpansion.{round_keys}
@@ -18,12 +21,11 @@ use Rattle.cmac.specs.declared.Subkeys.{Subkeys}
 use Rattle.cmac.specs.Cmac.{zeros, subkeys, zero_cipher, cmac}
 use Rattle.header.specs.Header.{total, strings}
 use Rattle.header.specs.Blocks.{blocks_of_all}
-use Rattle.header.proofs.Laws.{length-strings}
 use Rattle.s2v.specs.S2v.{absorb_strings, absorb_work, header_result}
 use Rattle.s2v.proofs.Laws.{absorb_append}
-use Rattle.answers.specs.declared.Answer.{Answer}
-use Rattle.answers.specs.Answer.{first, settle, outcome_of, refusal}
-use Rattle.answers.proofs.Laws.{IsRefused, not_due, by_refusal, by_complete}
+use Rattle.answers.specs.declared.Refusal.{Refusal}
+use Rattle.answers.specs.Answer.{number_of, first, settle}
+use Rattle.answers.proofs.Laws.{not_due, by_refusal, by_complete}
 use Rattle.whole.specs.Siv.{mac_key, ctr_key}
 use Rattle.whole.proofs.Lengths.{absorb_lengths, header_lengths}
 use Rattle.head.specs.declared.Head.{Head}
@@ -38,6 +40,14 @@ sum_exceeds most total n h = go (dec_lt (most - total) n)
     go (yes k) = lt-ltb (most - total) n k ∙ sym (lt-ltb most (total + n) (omega arith))
     go (no k) = le-ltb (most - total) n (omega arith) ∙ sym (le-ltb most (total + n) (omega arith))
 
+-- what an array's default is known by
+abbrev pub Zeros : List ℕ → ℕ → Type 0
+Zeros xs n = AllOfLen (λ x. x ≡ 0) xs n
+
+pub zeros_by_default : (n : ℕ) (xs : List ℕ) → Zeros xs n → xs ≡ replicate n 0
+zeros_by_default n xs a =
+    same_number_lists xs (replicate n 0) (a.long ∙ sym (length-replicate n 0)) (λ k h. a.at k 0 (omega (arith, a.long)) ∙ sym (get_or-replicate n k 0 0 (omega (arith, a.long))))
+
 -- ---- the heads that the code puts together
 
 abbrev head_with : ℕ → List ℕ → List ℕ → List ℕ → List ℕ → ℕ → Head
@@ -51,26 +61,13 @@ head_with width macs ctrs l d count =
       count = count;
     }
 
-module _ (bytes lens : List ℕ) where
-  pub prepared : (key : List ℕ) {macs ctrs l d : List ℕ} {k : Subkeys} → macs ≡ round_keys (mac_key key) → ctrs ≡ round_keys (ctr_key key)
-      → l ≡ zero_cipher (cipher (length key / 2) macs) → k ≡ subkeys l → d ≡ header_result (cipher (length key / 2) macs) k (strings bytes lens)
-      → head_with (length key / 2) macs ctrs l d (length lens) ≡ head_of key (strings bytes lens)
-  unfolding head_of
-  prepared key {macs} {ctrs} {l} {d} {k} m c e f g =
-      let E : List ℕ → List ℕ → List ℕ = cipher (length key / 2) in
-      let l' : l ≡ zero_cipher (E (round_keys (mac_key key))) = e ∙ ap (λ (w : List ℕ). zero_cipher (E w)) m in
-      let d' : d ≡ header_result (E (round_keys (mac_key key))) (subkeys (zero_cipher (E (round_keys (mac_key key))))) (strings bytes lens) =
-      g ∙ ap₂ (λ (w : List ℕ) (j : Subkeys). header_result (E w) j (strings bytes lens)) m (f ∙ ap subkeys l') in
-      simp (m, c, l', d', length-strings bytes lens)
-
-  module _ (h : Head) where
-    pub extended_by : {d : List ℕ} {k : Subkeys} → k ≡ subkeys h.l → d ≡ absorb_strings (cipher h.width h.mac_keys) k h.d (strings bytes lens)
-        → head_with h.width h.mac_keys h.ctr_keys h.l d (h.count + length lens) ≡ extended h (strings bytes lens)
-    unfolding extended
-    extended_by {d} {k} f g =
-        ap₂ (λ (x : List ℕ) (n : ℕ). head_with h.width h.mac_keys h.ctr_keys h.l x (h.count + n))
-        (g ∙ ap (λ (j : Subkeys). absorb_strings (cipher h.width h.mac_keys) j h.d (strings bytes lens)) f)
-        (sym (length-strings bytes lens))
+-- the default of each field makes the head that comes with a refusal
+pub zero_by_default : (h : Head)
+    → (h.width ≡ 0) × (Zeros h.mac_keys 240 × (Zeros h.ctr_keys 240 × (Zeros h.l 16 × (Zeros h.d 16 × (h.count ≡ 0)))))
+    → h ≡ zero_head
+zero_by_default h (w, (m, (c, (l, (d, n))))) =
+    let made : head_with h.width h.mac_keys h.ctr_keys h.l h.d h.count ≡ zero_head = simp (w, zeros_by_default _ _ m, zeros_by_default _ _ c, zeros_by_default _ _ l, zeros_by_default _ _ d, n) in
+    made
 
 -- no strings more
 pub extended_none : (bytes lens : List ℕ) (h : Head) → length lens ≡ 0 → h ≡ extended h (strings bytes lens)
@@ -117,6 +114,10 @@ fit h e =
     let a = (and-eq-true_iff (is_width h.width) (not (ltb 126 h.count))).0 e in
     record { width = (width h.width a.0).high; count_fits = ltb-false 126 h.count (not-true (ltb 126 h.count) a.1) }
 
+-- a head that fits has few strings
+pub few_strings : (h : Head) → fits_head h ≡ true → h.count ≤ 126
+few_strings h e = (fit h e).count_fits
+
 pub record RestAdmits (h : Head) (lens : List ℕ) (restLength : ℕ) : Type 0 where
   pub width : h.width ≤ 32
   pub count_fits : h.count + length lens ≤ 126
@@ -136,9 +137,8 @@ rest_admits h lens restLength e =
 -- ---- the calls' results
 
 module _ (n w : ℕ) (h : Head) {made : Made} where
-  pub make_refused : (a : Answer) → IsRefused a → outcome_of a 0 ≡ refusal n → DidMake (record { outcome = outcome_of a 0; head = zero_head }) made
-      → DidMake (settle n (made_head w h) refused_head) made
-  make_refused a k e d = by_refusal n (made_head w h) (λ o. record { outcome = o; head = zero_head }) (λ (r : MakeResult). DidMake r made) a k e d
+  pub make_refused : (r : Refusal) → number_of r ≡ n → DidMake (refused_head (number_of r)) made → DidMake (settle n (made_head w h) refused_head) made
+  make_refused r k d = by_refusal n (made_head w h) (λ o. record { outcome = o; head = zero_head }) (λ (m : MakeResult). DidMake m made) r k d
 
-  pub make_done : n ≡ 0 → DidMake (made_head w h) made → DidMake (settle n (made_head w h) refused_head) made
-  make_done e d = by_complete n (made_head w h) refused_head (λ (r : MakeResult). DidMake r made) e d
+  pub make_done : 0 ≡ n → DidMake (made_head w h) made → DidMake (settle n (made_head w h) refused_head) made
+  make_done e d = by_complete n (made_head w h) refused_head (λ (m : MakeResult). DidMake m made) (sym e) d

@@ -5,16 +5,17 @@
 mod admitted;
 pub mod judge;
 
-ghost use Rattle.std.specs.Prelude.{◌≡◌};
 ghost use Rattle.answers.specs.Answer.{outcome_of};
 ghost use Rattle.head.specs.Head.{zero_head, DidMake, make_head, extend_head};
 
 use aes::RoundKeys;
-use answers::Answer;
+use answers::{Answer, Refusal};
+use header::Header;
 use octets::Block;
+use whole::Key;
 
 // A head. Whatever its fields hold, a call that takes one judges width and count, and uses the others as they are.
-#[derive(Clone, Copy)]
+#[derive(Clone, Copy, Default)]
 pub struct Head {
     // The length of one half of the key.
     pub width: usize,
@@ -38,28 +39,14 @@ pub struct Made {
     pub head: Head,
 }
 
-// The head that comes with a refusal: all fields zero.
-fn zero_head() -> Head
-    ensures { result ≡ zero_head }
-{
-    Head {
-        width: 0,
-        mac_keys: [0u8; 240],
-        ctr_keys: [0u8; 240],
-        l: [0u8; 16],
-        d: [0u8; 16],
-        count: 0,
-    }
-}
-
-// A refusal, with that head and no work.
-fn refused(answer: Answer) -> Made
-    ensures { DidMake (record { outcome = outcome_of answer 0; head = zero_head }) result }
+// A refusal, with a head that is all zero and no work.
+fn refused(refusal: Refusal) -> Made
+    ensures { DidMake (record { outcome = outcome_of (Err refusal) 0; head = zero_head }) result }
 {
     Made {
-        answer,
+        answer: Err(refusal),
         work: 0,
-        head: zero_head(),
+        head: Head::default(),
     }
 }
 
@@ -68,20 +55,24 @@ impl Head {
     pub fn make(key: &[u8], header: &[u8], lens: &[u32]) -> Made
         ensures { DidMake (make_head key.now header.now lens.now) result }
     {
-        let answer = admission::judge_header(key.len(), lens, header.len());
-        if let Answer::Refused(_) = answer {
-            return refused(answer);
+        if let Err(refusal) = admission::judge_header(key.len(), lens, header.len()) {
+            return refused(refusal);
         }
-        admitted::head_of(key, header, lens)
+        admitted::head_of(
+            Key { bytes: key },
+            Header {
+                bytes: header,
+                lens,
+            },
+        )
     }
 
     // The head with the next strings of its header list. A refusal comes with a head that is all zero.
     pub fn extend(self, rest: &[u8], lens: &[u32]) -> Made
         ensures { DidMake (extend_head self rest.now lens.now) result }
     {
-        let answer = judge::judge_rest(self, lens, rest.len());
-        if let Answer::Refused(_) = answer {
-            return refused(answer);
+        if let Err(refusal) = judge::judge_rest(self, lens, rest.len()) {
+            return refused(refusal);
         }
         admitted::extended(self, rest, lens)
     }

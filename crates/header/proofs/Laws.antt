@@ -1,18 +1,15 @@
 -- Laws of `total`, `strings` and `blocks_of_all`: joined lists of lengths, one string more, a loop over the lengths.
 -- Assumes nothing.
-use mathlib.Core.Path.{◌≡◌, refl, sym, ap, ap₂, ◌∙◌}
-use mathlib.Core.Bool.{false}
+use mathlib.Core.Path.{◌≡◌, refl, ap, ap₂, ◌∙◌}
 use mathlib.Core.List.{List, [], ◌∷◌, ◌++◌}
-use Prim.Native.Nat.{ℕ, suc, ◌+◌, ◌-◌, ◌*◌, ◌≤◌, ◌<◌, zero-le}
-use native.Mathlib.Nat.{add-zero}
+use Prim.Native.Nat.{ℕ, suc, ◌+◌, ◌*◌, ◌^◌, ◌≤◌, ◌<◌}
 use native.Mathlib.Numerals.{add-one}
 use native.Mathlib.Omega.{arith}
-use lib.Dec.{eqb}
 use lib.ListN.{length, take, drop, get_or, take-append-drop}
-use lib.Seq.{take-suc, take_all, take-take, drop-drop}
-use borrow.Author.Tests.{eqb-true, eq-eqb, ne_eqb}
-use Rattle.octets.proofs.Strings.{drop-take}
-use Rattle.octets.proofs.Tests.{bool_ext}
+use lib.Seq.{take-suc, take-take, drop-drop}
+use Rattle.std.proofs.lemmas.List.{drop-take}
+use Rattle.std.specs.List.{sum_by}
+use Rattle.std.proofs.lemmas.Grind.{common_steps}
 use Rattle.header.specs.Header.{total, strings}
 use Rattle.header.specs.Blocks.{blocks_of, blocks_of_all}
 
@@ -67,32 +64,6 @@ module _ (lens : List ℕ) (i : ℕ) (h : i < length lens) where
   pub total_next : total (take i lens) + get_or lens i 0 ≤ total lens
   total_next = omega (arith, total_more, total-take lens (i + 1))
 
--- a loop that counts down from n: what is left after the first i lengths
-pub record Left (lens : List ℕ) (n rest i : ℕ) : Type 0 where
-  pub count : i ≤ length lens
-  pub sum : total (take i lens) + rest ≡ n
-
-module _ (lens : List ℕ) (n : ℕ) where
-  pub left_all : Left lens n n 0
-  unfolding total
-  left_all = record { count = zero-le; sum = omega arith }
-
-  module _ (rest i : ℕ) (l : Left lens n rest i) where
-    pub left_more : i < length lens → get_or lens i 0 ≤ rest → Left lens n (rest - get_or lens i 0) (i + 1)
-    left_more h fits = record { count = omega arith; sum = omega (arith, total_more lens i h) }
-
-    -- the next length is more than is left
-    pub left_short : i < length lens → rest < get_or lens i 0 → false ≡ eqb (total lens) n
-    left_short h short = sym (ne_eqb (total lens) n (λ e. omega (arith, total_next lens i h)))
-
-    -- all lengths are counted
-    pub left_none : length lens ≤ i → eqb rest 0 ≡ eqb (total lens) n
-    left_none h =
-        let all : total (take i lens) ≡ total lens = ap total (take_all i lens h) in
-        bool_ext (eqb rest 0) (eqb (total lens) n)
-        (λ e. eq-eqb (total lens) n (omega (arith, eqb-true rest 0 e)))
-        (λ e. eq-eqb rest 0 (omega (arith, eqb-true (total lens) n e)))
-
 -- ---- blocks
 
 -- a header string has a block at the most for every 16 bytes, and one
@@ -106,14 +77,12 @@ unfolding blocks_of_all
 blocks-append [] b = omega arith
 blocks-append (n ∷ a) b = omega (arith, blocks-append a b)
 
--- one string more, and all of them
-pub blocks_next : (lens : List ℕ) (i : ℕ) → i < length lens → blocks_of_all (take (i + 1) lens) ≡ blocks_of_all (take i lens) + blocks_of (get_or lens i 0)
+pub blocks_sum : (lens : List ℕ) → sum_by blocks_of lens ≡ blocks_of_all lens
 unfolding blocks_of_all
-blocks_next lens i h =
-    ap (λ (n : ℕ). blocks_of_all (take n lens)) (add-one i)
-    ∙ ap blocks_of_all (take-suc lens i 0 h)
-    ∙ blocks-append (take i lens) (get_or lens i 0 ∷ [])
-    ∙ ap (λ (n : ℕ). blocks_of_all (take i lens) + n) (add-zero (blocks_of (get_or lens i 0)))
+blocks_sum [] = refl
+blocks_sum (n ∷ lens) = grind (arith, common_steps, blocks_sum lens)
 
-pub blocks_all : (lens : List ℕ) (i : ℕ) → length lens ≤ i → blocks_of_all (take i lens) ≡ blocks_of_all lens
-blocks_all lens i h = ap blocks_of_all (take_all i lens h)
+pub blocks_small : (lens : List ℕ) → ((i : ℕ) → get_or lens i 0 < 2 ^ 32) → blocks_of_all lens ≤ length lens * 2 ^ 28
+unfolding blocks_of_all
+blocks_small [] h = omega arith
+blocks_small (n ∷ lens) h = omega (arith, h 0, blocks_small lens (λ i. h (suc i)))

@@ -6,10 +6,7 @@ ghost use Rattle.header.specs.Blocks.{blocks_of, blocks_of_all};
 pub fn of(n: usize) -> usize
     ensures { result ≡ blocks_of n }
 {
-    if n == 0 {
-        return 1;
-    }
-    (n - 1) / 16 + 1
+    n.max(1).div_ceil(16)
 }
 
 // The blocks of strings of these lengths.
@@ -18,11 +15,5 @@ pub fn of_all(lens: &[u32]) -> usize
     ensures all { result ≡ blocks_of_all lens.now }
     ensures small { result ≤ 126 * 2 ^ 28 }
 {
-    let mut sum = 0;
-    let mut i = 0;
-    while i < lens.len() {
-        sum = sum + of(crate::length_at(lens, i));
-        i += 1;
-    }
-    sum
+    lens.iter().map(|n| of(*n as usize)).sum()
 }

@@ -9,7 +9,8 @@ use lib.Dec.{eqb}
 use lib.ListN.{length, take, drop, length-drop}
 use lib.Seq.{take_all, length-take-le}
 use Rattle.octets.specs.Octets.{xors, put, Lent, LentMut, Writes}
-use Rattle.octets.proofs.Strings.{length-xors, put-put, part_rest}
+use Rattle.octets.proofs.Strings.{length-xors, put-put}
+use Rattle.std.proofs.lemmas.List.{take_rest}
 use Rattle.aes.specs.declared.Counted.{Counted}
 use Rattle.aes.specs.Work.{Reports}
 use Rattle.keystream.specs.KeyStream.{key_stream_work, xor_stream}
@@ -57,7 +58,7 @@ module _ (E : List ℕ → List ℕ) (sized : (b : List ℕ) → length (E b) �
     used_up = omega (arith, taken, more)
 
     length_from_new : length from_new ≡ length text - n
-    length_from_new = ap length (part_rest text n) ∙ length-drop n text
+    length_from_new = ap length (take_rest text n) ∙ length-drop n text
 
     pub piece_beyond : at + length text ≤ length dst.entry.now → {wrote : List ℕ} → wrote ≡ put dst.entry.now at front
         → {r : Counted} → Reports (kept_after E v no_block (16 * ((place + n) / 16)) (length from_new)) (piece_work (16 * ((place + n) / 16)) (length from_new)) r
@@ -83,7 +84,7 @@ module _ (E : List ℕ → List ℕ) (sized : (b : List ℕ) → length (E b) �
           text =
               e
               ∙ ap (put wrote (at + n)) (xor_piece_fresh E sized v i from_new)
-              ∙ ap₂ (λ (k : ℕ) (t : List ℕ). put wrote (at + n) (xor_stream E v k t)) next (part_rest text n)
+              ∙ ap₂ (λ (k : ℕ) (t : List ℕ). put wrote (at + n) (xor_stream E v k t)) next (take_rest text n)
               ∙ ap₂ (λ (x : List ℕ) (k : ℕ). put x (at + k) stream) w (sym length_front)
               ∙ put-put l at front stream (omega (arith, length_front, taken))
               ∙ ap (λ (t : List ℕ). put l at (t ++ stream)) from_kept_lem

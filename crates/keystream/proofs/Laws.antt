@@ -13,7 +13,8 @@ use lib.ListN.{length, take, drop, length-append, length-drop, take-append-drop}
 use lib.Seq.{take_all, take-take, take-append-le, drop-drop, drop_at, drop-append-le, drop-append-add, length-take-le}
 use borrow.Author.Tests.{eq-eqb, ne_eqb}
 use Rattle.octets.specs.Octets.{xors}
-use Rattle.octets.proofs.Strings.{length-xors, xors_undo, xors-append, take-xors, drop-take}
+use Rattle.octets.proofs.Strings.{length-xors, xors_undo, xors-append, take-xors}
+use Rattle.std.proofs.lemmas.List.{drop-take}
 use Rattle.counter.specs.Counter.{initial_counter, counter_block}
 use Rattle.keystream.specs.KeyStream.{blocks_begun, stream_blocks, stream_work, key_stream, key_stream_work, xor_stream}
 use Rattle.keystream.specs.Pieces.{no_block, begun_block, left_over, new_blocks, at_hand, piece_work, xor_piece, kept_after}

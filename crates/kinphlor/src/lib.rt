@@ -16,19 +16,17 @@ pub fn pack(a: Answer) -> u64
     ensures { result ≡ packed (outcome_of a 0) }
 {
     match a {
-        Answer::Ok(n) => n as u64,
-        Answer::Refused(r) => answers::number(r) * 4294967296,
+        Ok(n) => n as u64,
+        Err(refusal) => u64::from(refusal) * 4294967296,
     }
 }
 
 // Whether the nonce is empty, and the key is none to refuse before it.
+#[tactic(auto, unfolding(crate::specs::Interface::empty_nonce))]
 fn empty_nonce(key_len: usize, nonce_len: u32) -> bool
     ensures { result ≡ empty_nonce key_len nonce_len }
 {
-    if admission::is_key_len(key_len) {
-        return nonce_len == 0;
-    }
-    false
+    admission::is_key_len(key_len) && nonce_len == 0
 }
 
 // Seals: header is the associated data and then the nonce.
@@ -44,15 +42,13 @@ pub fn kinphlor_seal(
     ensures { PerformsFromC seal_from_c key header ad_len nonce_len input output scratch result }
 {
     if empty_nonce(key.len(), nonce_len) {
-        return pack(Answer::Refused(Refusal::EmptyNonce));
+        return pack(Err(Refusal::EmptyNonce));
     }
     let lens = [ad_len, nonce_len];
-    let report = siv::seal(key, header, &lens, input, output, scratch);
-    let answer = report.answer;
-    pack(answer)
+    pack(siv::seal(key, header, &lens, input, output, scratch).answer)
 }
 
-// Opens what kinphlor_seal sealed.
+// Opens what kinphlor_seal sealed. A function of its own, since C has both.
 pub fn kinphlor_open(
     key: &[u8],
     header: &[u8],
@@ -65,12 +61,10 @@ pub fn kinphlor_open(
     ensures { PerformsFromC open_from_c key header ad_len nonce_len input output scratch result }
 {
     if empty_nonce(key.len(), nonce_len) {
-        return pack(Answer::Refused(Refusal::EmptyNonce));
+        return pack(Err(Refusal::EmptyNonce));
     }
     let lens = [ad_len, nonce_len];
-    let report = siv::open(key, header, &lens, input, output, scratch);
-    let answer = report.answer;
-    pack(answer)
+    pack(siv::open(key, header, &lens, input, output, scratch).answer)
 }
 
 // A ring's answer as one number: the slot, times 2 to the power 28, stands between number and length.
@@ -78,18 +72,15 @@ fn pack_ring(a: RingAnswer) -> u64
     requires { (a.slot ≤ 3) × ((outcome_of a.answer 0).count ≤ limit) }
     ensures { result ≡ packed_ring a.slot (outcome_of a.answer 0) }
 {
-    let answer = a.answer;
-    pack(answer) + (a.slot as u64) * 268435456
+    pack(a.answer) + (a.slot as u64) * 268435456
 }
 
 // Whether the nonce is empty, and neither 1 nor 11 is due before it.
+#[tactic(auto, unfolding(crate::specs::Interface::empty_nonce_ring))]
 fn empty_nonce_ring(key_len: usize, ring_len: usize, nonce_len: u32) -> bool
     ensures { result ≡ empty_nonce_ring key_len ring_len nonce_len }
 {
-    if let Answer::Refused(_) = admission::judge_ring(key_len, ring_len) {
-        return false;
-    }
-    nonce_len == 0
+    admission::judge_ring(key_len, ring_len).is_ok() && nonce_len == 0
 }
 
 // Opens what kinphlor_seal sealed, under the first key of a ring that opens it.
@@ -106,7 +97,7 @@ pub fn kinphlor_open_ring(
     ensures { PerformsRingFromC key_len ring header ad_len nonce_len input output scratch result }
 {
     if empty_nonce_ring(key_len, ring.len(), nonce_len) {
-        return pack(Answer::Refused(Refusal::EmptyNonce));
+        return pack(Err(Refusal::EmptyNonce));
     }
     let lens = [ad_len, nonce_len];
     pack_ring(ring::open_ring(key_len, ring, header, &lens, input, output, scratch))
@@ -114,6 +105,7 @@ pub fn kinphlor_open_ring(
 
 // For planning, from lengths alone: how many blocks go through the cipher to seal n bytes, or to open what that gives,
 // with associated data and nonce of these lengths. 0 for an empty nonce and for n over the limit.
+#[tactic(auto, unfolding(crate::specs::Interface::planned_from_c))]
 pub fn kinphlor_planned_work(ad_len: u32, nonce_len: u32, n: usize) -> u64
     ensures { result ≡ planned_from_c ad_len nonce_len n }
 {
@@ -136,8 +128,8 @@ pub fn kinphlor_worst_header(
     ensures { GivesWorstFromC header_len count least lens.new result }
 {
     let given = worst_header::header_list(header_len, count, least);
+    // By a local: a proof of `*lens = given.lens` does not close.
     let places = given.lens;
     *lens = places;
-    let answer = given.answer;
-    pack(answer) + given.blocks as u64
+    pack(given.answer) + given.blocks as u64
 }

@@ -1,5 +1,2 @@
-pub mod Bits
 pub mod Strings
 pub mod Tests
-mod Zeros
-mod Joined

@@ -1,22 +1,31 @@
 -- Laws of `xors`, `put` and `same` on strings.
 -- Assumes nothing.
 use mathlib.Core.Path.{◌≡◌, refl, sym, ap, ap₂, ◌∙◌}
-use mathlib.Core.Bool.{true, false≢true, ◌&&◌, and-eq-true_iff}
+use mathlib.Core.Bool.{Bool, true, false≢true, ◌&&◌, and-eq-true_iff, and-true, and_assoc}
 use mathlib.Core.List.{List, [], ◌∷◌, ◌++◌, append_assoc, append-nil}
-use Prim.Native.Nat.{ℕ, zero, suc, ◌+◌, ◌-◌, ◌≤◌, ◌<◌, zero-le}
-use native.Mathlib.Nat.{add-zero, zero-add, suc-add, le_of_suc-le-suc, not-suc-le-zero}
+use Prim.Native.Nat.{ℕ, zero, suc, ◌+◌, ◌-◌, ◌≤◌, ◌<◌}
+use native.Mathlib.Nat.{add-zero, zero-add, le_of_suc-le-suc, not-suc-le-zero}
 use native.Mathlib.Numerals.{add-one}
 use native.Mathlib.Omega.{arith}
-use lib.Bits.{bit_xor, bit_or, xor_zero_r, xor_self}
+use lib.Bits.{bit_xor, bit_or, xor_assoc, xor_zero_r, xor_self, or_add_and, and_le_l, and_le_r}
+use Rattle.std.proofs.lemmas.Bool.Decides.{nat_tests}
 use lib.Dec.{eqb}
 use lib.ListN.{length, take, drop, get_or, set, replicate, length-append, length-drop, length-set, take-append-drop}
-use lib.Seq.{paste, paste-zero, paste-suc, take-length, drop-length, length-take-le, take_at, drop_at, drop-drop, take-suc, take-nil, take-take, take_all, get_or-take}
+use lib.Seq.{paste, paste-suc, take-length, drop-length, length-take-le, take_at, drop_at, drop-drop}
 use borrow.Author.Tests.{eqb-true, eq-eqb}
-use Rattle.octets.specs.Octets.{xors, put, part, entries, same}
-use Rattle.octets.proofs.Bits.{xor_assoc, xor_undo, xor_zero, or_zero}
-use Rattle.octets.proofs.Tests.{bool_ext}
+use borrow.Rule.Slice.PartMut.{put_mid}
+use Rattle.std.proofs.lemmas.Slice.{put_mid-paste}
+use Rattle.std.specs.List.{fold, zip}
+use Rattle.octets.specs.Octets.{xors, put, part, entries, same, all_zero}
 
 -- ---- xor
+
+-- of bytes: twice undoes itself, and it is zero only where the two are the same
+xor_undo : (a b : ℕ) → bit_xor (bit_xor a b) b ≡ a
+xor_undo a b = simp (xor_assoc, xor_self, xor_zero_r)
+
+xor_zero : (a b : ℕ) → bit_xor a b ≡ 0 → a ≡ b
+xor_zero a b e = sym (xor_undo a b) ∙ ap (λ (n : ℕ). bit_xor n b) e
 
 pub length-xors : (a b : List ℕ) → length (xors a b) ≡ length a
 unfolding xors
@@ -94,16 +103,6 @@ part_to l at n =
     let count : at + n - at ≡ n = omega arith in
     ap (λ (k : ℕ). take k (drop at l)) count
 
--- all that is left from a place on, as `&s[at..]` has it
-pub part_rest : (l : List ℕ) (at : ℕ) → part l at (length l - at) ≡ drop at l
-part_rest l at = take_all (length l - at) (drop at l) (simp length-drop (omega arith))
-
--- the end of a front of a string
-pub drop-take : (at n : ℕ) (l : List ℕ) → drop at (take (at + n) l) ≡ take n (drop at l)
-drop-take zero n l = ap (λ (k : ℕ). take k l) (zero-add n)
-drop-take (suc at) n [] = ap (drop (suc at)) (take-nil (suc at + n)) ∙ sym (take-nil n)
-drop-take (suc at) n (x ∷ l) = ap (λ (k : ℕ). drop (suc at) (take k (x ∷ l))) (suc-add at n) ∙ drop-take at n l
-
 entries_tail : (n i x : ℕ) (l : List ℕ) → entries n (suc i) (x ∷ l) ≡ entries n i l
 entries_tail zero i x l = refl
 entries_tail (suc n) i x l = ap (λ (t : List ℕ). get_or l i 0 ∷ t) (entries_tail n (suc i) x l)
@@ -134,7 +133,13 @@ module _ (l : List ℕ) (at : ℕ) (s : List ℕ) (fits : at + length s ≤ leng
 -- writing nothing
 pub put_nil : (l : List ℕ) (at : ℕ) → put l at [] ≡ l
 unfolding put
-put_nil l at = ap₂ (λ (p : List ℕ) (n : ℕ). p ++ drop n l) (append-nil (take at l)) (add-zero at) ∙ take-append-drop at l
+put_nil l at = simp (append-nil, add-zero, take-append-drop)
+
+-- a part that was written through a slice of it, as `l[at..at + n].fill(0)` does, with what the slice holds now
+pub put_mid_put : (l : List ℕ) (at k : ℕ) (now s : List ℕ) → now ≡ s → k ≡ length s → put_mid at k l now ≡ put l at s
+unfolding put
+put_mid_put l at k now s e n =
+    put_mid-paste at k l now s (length s) e (sym n) refl ∙ ap (λ (t : List ℕ). take at l ++ t ++ drop (at + length s) l) (take-length s)
 
 -- two parts written one behind the other are one part
 pub put-put : (l : List ℕ) (at : ℕ) (a b : List ℕ) → at + length a ≤ length l → put (put l at a) (at + length a) b ≡ put l at (a ++ b)
@@ -152,8 +157,7 @@ put-put l at a b fits =
 pub put_all : (l s : List ℕ) → length s ≡ length l → put l 0 s ≡ s
 unfolding put
 put_all l s e =
-    let end : 0 + length s ≡ length l = omega arith in
-    ap (λ (p : List ℕ). s ++ p) (ap (λ (n : ℕ). drop n l) end ∙ drop-length l) ∙ append-nil s
+    simp (zero-add, e, drop-length, append-nil)
 
 -- ---- a loop that writes `s` over `l` from place `at` on, a byte a turn
 
@@ -164,9 +168,6 @@ pub record Written (l : List ℕ) (at : ℕ) (s : List ℕ) (now : List ℕ) (i 
   pub bytes : now ≡ paste l at s i
 
 module _ (l : List ℕ) (at : ℕ) (s : List ℕ) where
-  pub written_none : Written l at s l 0
-  written_none = record { count = zero-le; long = refl; bytes = paste-zero l at s }
-
   pub written_more : (now : List ℕ) (i v : ℕ) → at + length s ≤ length l → Written l at s now i → i < length s → get_or s i 0 ≡ v
       → Written l at s (set now (at + i) v) (i + 1)
   written_more now i v fits w h e =
@@ -202,39 +203,30 @@ unfolding same
 same_refl [] = refl
 same_refl (x ∷ a) = ap₂ ◌&&◌ (eq-eqb x x refl) (same_refl a)
 
--- a loop that gathers by or in what the first i bytes of `a` and `b` differ
-pub record Differ (a b : List ℕ) (diff i : ℕ) : Type 0 where
-  pub none : diff ≡ 0 → take i a ≡ take i b
-  pub some : take i a ≡ take i b → diff ≡ 0
+-- ---- tests of all bytes, whose bits an or gathers
 
-pub differ_none : (a b : List ℕ) → Differ a b 0 0
-differ_none a b = record { none = λ e. refl; some = λ e. refl }
+-- one byte more
+or_more : (d z : ℕ) → eqb (bit_or d z) 0 ≡ (eqb d 0 && eqb z 0)
+or_more d z = grind (arith, nat_tests, or_add_and d z, and_le_l d z, and_le_r d z)
 
-pub differ_more : (a b : List ℕ) (diff i : ℕ) → i < length a → i < length b → Differ a b diff i
-    → Differ a b (bit_or diff (bit_xor (get_or a i 0) (get_or b i 0))) (i + 1)
-differ_more a b diff i ha hb d =
-    let x : ℕ = get_or a i 0 in
-    let y : ℕ = get_or b i 0 in
-    record {
-      none = λ e.
-          let parts : (diff ≡ 0) × (bit_xor x y ≡ 0) = or_zero diff (bit_xor x y) e in
-          ap (λ (n : ℕ). take n a) (add-one i)
-          ∙ take-suc a i 0 ha
-          ∙ ap₂ (λ (l : List ℕ) (z : ℕ). l ++ (z ∷ [])) (d.none parts.0) (xor_zero x y parts.1)
-          ∙ sym (take-suc b i 0 hb)
-          ∙ ap (λ (n : ℕ). take n b) (sym (add-one i));
-      some = λ e.
-          let front : take i a ≡ take i b =
-          sym (take-take i (i + 1) a (omega arith)) ∙ ap (take i) e ∙ take-take i (i + 1) b (omega arith) in
-          let last : x ≡ y =
-          sym (get_or-take (i + 1) a i 0 (omega arith)) ∙ ap (λ (l : List ℕ). get_or l i 0) e ∙ get_or-take (i + 1) b i 0 (omega arith) in
-          ap₂ bit_or (d.some front) (ap (λ (z : ℕ). bit_xor z y) last ∙ xor_self y);
-    }
+xor_same : (x y : ℕ) → eqb (bit_xor x y) 0 ≡ eqb x y
+xor_same x y = grind (arith, nat_tests, xor_zero x y, xor_self)
 
-pub differ_all : (a b : List ℕ) (diff i : ℕ) → length a ≤ i → length b ≤ i → Differ a b diff i → eqb diff 0 ≡ same a b
-differ_all a b diff i ha hb d =
-    bool_ext (eqb diff 0) (same a b)
-    (λ e.
-    let eq : a ≡ b = sym (take_all i a ha) ∙ d.none (eqb-true diff 0 e) ∙ take_all i b hb in
-    ap (same a) (sym eq) ∙ same_refl a)
-    (λ e. eq-eqb diff 0 (d.some (ap (take i) (same_eq a b e))))
+pub or_all : (l : List ℕ) (d : ℕ) → eqb (fold bit_or d l) 0 ≡ (eqb d 0 && all_zero l)
+unfolding all_zero
+or_all [] d = sym (and-true (eqb d 0))
+or_all (b ∷ l) d = or_all l (bit_or d b) ∙ ap (λ (t : Bool). t && all_zero l) (or_more d b) ∙ and_assoc (eqb d 0) (eqb b 0) (all_zero l)
+
+-- an or that gathers in what the bytes of two strings differ, with those of the next place
+abbrev pub differ : ℕ → ℕ × ℕ → ℕ
+differ d (x, y) = bit_or d (bit_xor x y)
+
+pub differ_all : (a b : List ℕ) (d : ℕ) → length a ≡ length b → eqb (fold differ d (zip a b)) 0 ≡ (eqb d 0 && same a b)
+unfolding same
+differ_all [] [] d e = sym (and-true (eqb d 0))
+differ_all [] (y ∷ b) d e = absurd (omega arith)
+differ_all (x ∷ a) [] d e = absurd (omega arith)
+differ_all (x ∷ a) (y ∷ b) d e =
+    differ_all a b (bit_or d (bit_xor x y)) (omega arith)
+    ∙ ap (λ (t : Bool). t && same a b) (or_more d (bit_xor x y) ∙ ap (λ (t : Bool). eqb d 0 && t) (xor_same x y))
+    ∙ and_assoc (eqb d 0) (eqb x y) (same a b)

@@ -1,22 +1,19 @@
 // Byte strings: blocks of 16 bytes by value, and parts of lent slices.
 #![tactic(auto)]
 
-ghost use Rattle.std.specs.Prelude.{◌≡◌, ◌++◌, ◌&&◌, ◌||◌, ◌+◌, ◌≤◌, eqb, ltb, length, drop, replicate};
+ghost use Rattle.std.specs.Prelude.{◌≡◌, ◌++◌, ◌+◌, ◌≤◌, length, drop, replicate};
 ghost use Rattle.octets.specs.Octets.{xors, part, same, all_zero, Writes};
 
 // A block: 16 bytes, byte 0 first.
 pub type Block = [u8; 16];
 
 // Copies all of src to place at of a slice.
+#[tactic(auto, using(crate::proofs::Strings::put_mid_put))]
 pub fn copy_at(dst: &mut [u8], at: usize, src: &[u8])
     requires { at + length src.now ≤ length dst.old }
     ensures { Writes dst at src.now }
 {
-    let mut i = 0;
-    while i < src.len() {
-        dst[at + i] = src[i];
-        i += 1;
-    }
+    dst[at..at + src.len()].copy_from_slice(src);
 }
 
 // Copies n bytes from a place of two joined strings to the front of a slice.
@@ -39,15 +36,12 @@ pub fn copy_joined(dst: &mut [u8], a: &[u8], b: &[u8], at: usize, n: usize)
 }
 
 // Writes n zeros at place at of a slice.
+#[tactic(auto, using(crate::proofs::Strings::put_mid_put))]
 pub fn zero_at(dst: &mut [u8], at: usize, n: usize)
     requires { at + n ≤ length dst.old }
     ensures { Writes dst at (replicate n 0) }
 {
-    let mut i = 0;
-    while i < n {
-        dst[at + i] = 0;
-        i += 1;
-    }
+    dst[at..at + n].fill(0);
 }
 
 // Writes all of src, xored with the front of mask, at place at of a slice.
@@ -55,10 +49,8 @@ pub fn xor_at(dst: &mut [u8], at: usize, src: &[u8], mask: &[u8])
     requires { (at + length src.now ≤ length dst.old) × (length src.now ≤ length mask.now) }
     ensures { Writes dst at (xors src.now mask.now) }
 {
-    let mut i = 0;
-    while i < src.len() {
+    for i in 0..src.len() {
         dst[at + i] = src[i] ^ mask[i];
-        i += 1;
     }
 }
 
@@ -68,7 +60,7 @@ pub fn load(src: &[u8], at: usize) -> Block
     ensures { result ≡ part src.now at 16 }
 {
     let mut block = [0u8; 16];
-    copy_at(&mut block, 0, &src[at..at + 16]);
+    block.copy_from_slice(&src[at..at + 16]);
     block
 }
 
@@ -89,41 +81,16 @@ pub fn xor_block(a: Block, b: Block) -> Block
     r
 }
 
-// Whether two blocks are the same; every byte is looked at.
+// Whether two blocks are the same. No `==`: every byte is looked at, whatever was found (docs/DECISIONS.md).
 pub fn same_block(a: Block, b: Block) -> bool
     ensures { result ≡ same a b }
 {
-    let mut diff: u8 = 0;
-    let mut i = 0;
-    while i < 16 {
-        diff = diff | (a[i] ^ b[i]);
-        i += 1;
-    }
-    diff == 0
+    a.iter().zip(&b).fold(0, |bits, (x, y)| bits | (x ^ y)) == 0
 }
 
-// Whether what was zero so far is, with a byte more at place i, which counts from place at on.
-fn still_zero(zero: bool, i: usize, at: usize, b: u8) -> bool
-    ensures { result ≡ (zero && (ltb i at || eqb b 0)) }
-{
-    if i < at {
-        return zero;
-    }
-    if b == 0 {
-        return zero;
-    }
-    false
-}
-
-// Whether the bytes of a slice from a place on are zero; it reads all of them.
+// Whether the bytes of a slice from a place on are zero. No `all`: it reads every one of them, too.
 pub fn zero_from(s: &[u8], at: usize) -> bool
     ensures { result ≡ all_zero (drop at s.now) }
 {
-    let mut zero = true;
-    let mut i = 0;
-    while i < s.len() {
-        zero = still_zero(zero, i, at, s[i]);
-        i += 1;
-    }
-    zero
+    s.iter().skip(at).fold(0, |bits, b| bits | b) == 0
 }

@@ -10,11 +10,8 @@ pub fn text(out: &impl Print, t: &[u8]) -> io::Result<()> {
 
 // Writes bytes in hexadecimal, two digits each.
 pub fn hex(out: &impl Print, bytes: &[u8]) -> io::Result<()> {
-    let mut i = 0;
-    while i < bytes.len() {
-        let b = bytes[i];
+    for b in bytes {
         print!(out; "{b:02x}")?;
-        i += 1;
     }
     Ok(())
 }
@@ -27,18 +24,12 @@ pub fn line(out: &impl Print, label: &[u8], bytes: &[u8]) -> io::Result<()> {
     text(out, b"\n")
 }
 
-fn row(out: &impl Print, bytes: &[u8]) -> io::Result<()> {
-    line(out, b"   ", bytes)
-}
-
 // Writes bytes in hexadecimal, sixteen to a line.
 pub fn rows(out: &impl Print, bytes: &[u8]) -> io::Result<()> {
-    let mut rest = bytes;
-    while 16 < rest.len() {
-        row(out, &rest[0..16])?;
-        rest = &rest[16..];
+    for row in bytes.chunks(16) {
+        line(out, b"   ", row)?;
     }
-    row(out, rest)
+    Ok(())
 }
 
 // Writes a number in decimal and a line end.

@@ -7,32 +7,29 @@ use head::Head;
 // How many bytes a head has: width 8, two times 240, two times 16, count 8.
 pub(crate) const LEN: usize = 528;
 
-// The head that bytes stand for.
-pub(crate) fn load(s: &[u8]) -> Head
-    requires { length s.now ≡ 528 }
-{
-    Head {
-        width: fields::number_at(s, 0),
-        mac_keys: fields::keys_at(s, 8),
-        ctr_keys: fields::keys_at(s, 248),
-        l: octets::load(s, 488),
-        d: octets::load(s, 504),
-        count: fields::number_at(s, 520),
+// The head that bytes stand for, if they are as many as a head has.
+pub(crate) fn load(s: &[u8]) -> Option<Head> {
+    if s.len() != LEN {
+        return None;
     }
+    Some(Head {
+        width: fields::number_at(s, 0),
+        mac_keys: fields::bytes_at(s, 8),
+        ctr_keys: fields::bytes_at(s, 248),
+        l: fields::bytes_at(s, 488),
+        d: fields::bytes_at(s, 504),
+        count: fields::number_at(s, 520),
+    })
 }
 
 // Writes a head's bytes.
-pub(crate) fn store(h: Head, bytes: &mut [u8])
+pub(crate) fn store(h: &Head, bytes: &mut [u8])
     requires { length bytes.old ≡ 528 }
 {
-    let mac_keys = h.mac_keys;
-    let ctr_keys = h.ctr_keys;
-    let l = h.l;
-    let d = h.d;
     fields::put_number(bytes, 0, h.width);
-    fields::put_keys(bytes, 8, mac_keys);
-    fields::put_keys(bytes, 248, ctr_keys);
-    octets::store(bytes, 488, l);
-    octets::store(bytes, 504, d);
+    octets::copy_at(bytes, 8, &h.mac_keys);
+    octets::copy_at(bytes, 248, &h.ctr_keys);
+    octets::copy_at(bytes, 488, &h.l);
+    octets::copy_at(bytes, 504, &h.d);
     fields::put_number(bytes, 520, h.count);
 }

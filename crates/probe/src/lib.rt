@@ -1,5 +1,6 @@
 // The calls that the C interface leaves out, exported for the host tests alone: whole calls with any header list,
 // and each piecewise call on a head or a state given as bytes. A call's work comes through its last buffer.
+// C has each name, so what is alike but for the call stays apart, and lengths come beside the slices.
 #![tactic(auto)]
 
 mod fields;
@@ -8,7 +9,7 @@ mod pieces;
 mod records;
 mod state;
 
-use answers::{Answer, Refusal};
+use answers::Refusal;
 use head::{Head, Made};
 use stream::{Step, Stream};
 use whole::Report;
@@ -19,17 +20,15 @@ const NO_BUFFER: u64 = 0xffffffff00000000;
 
 // Hands a call's work back through a buffer of eight bytes, the lowest first; one of another length stays as it is.
 fn give_work(blocks: usize, to: &mut [u8]) {
-    if to.len() != 8 {
-        return;
+    if to.len() == 8 {
+        fields::put_number(to, 0, blocks);
     }
-    fields::put_number(to, 0, blocks);
 }
 
 // Hands a whole call's work back through its buffer and the answer as one number.
 fn give_report(report: Report, work: &mut [u8]) -> u64 {
-    let answer = report.answer;
     give_work(report.work, work);
-    kinphlor::pack(answer)
+    kinphlor::pack(report.answer)
 }
 
 // Hands state and work back through their buffers and the answer as one number.
@@ -37,23 +36,30 @@ fn give(step: Step, bytes: &mut [u8], work: &mut [u8]) -> u64 {
     if bytes.len() != state::LEN {
         return NO_BUFFER;
     }
-    let answer = step.answer;
-    let s = step.state;
-    state::store(s, bytes);
+    state::store(&step.state, bytes);
     give_work(step.work, work);
-    kinphlor::pack(answer)
+    kinphlor::pack(step.answer)
 }
 
-// Hands head and work back through their buffers and the answer as one number.
+// Does a call on the state that bytes stand for.
+fn on_state<F: FnOnce(Stream) -> Step>(bytes: &mut [u8], work: &mut [u8], call: F) -> u64
+    requires { F.IsAlwaysCallable call }
+{
+    let Some(state) = state::load(bytes) else {
+        return NO_BUFFER;
+    };
+    give(call(state), bytes, work)
+}
+
+// Hands head and work back through their buffers and the answer as one number. As `give`, and not one function with
+// it: a step and a made head name what they hold differently, and a trait over both would have more lines.
 fn give_head(made: Made, bytes: &mut [u8], work: &mut [u8]) -> u64 {
     if bytes.len() != heads::LEN {
         return NO_BUFFER;
     }
-    let answer = made.answer;
-    let h = made.head;
-    heads::store(h, bytes);
+    heads::store(&made.head, bytes);
     give_work(made.work, work);
-    kinphlor::pack(answer)
+    kinphlor::pack(made.answer)
 }
 
 #[unsafe(no_mangle)]
@@ -84,10 +90,9 @@ pub extern "C" fn probe_open(
 
 // Hands a slot's number, which is one byte, back through a buffer.
 fn give_slot(slot: usize, to: &mut [u8]) {
-    if to.len() == 0 {
-        return;
+    if let Some(byte) = to.first_mut() {
+        *byte = (slot % 256) as u8;
     }
-    to[0] = (slot % 256) as u8;
 }
 
 #[unsafe(no_mangle)]
@@ -103,10 +108,9 @@ pub extern "C" fn probe_open_ring(
     work: &mut [u8],
 ) -> u64 {
     let opened = ring::open_ring(key_len, ring, header, lens, input, output, scratch);
-    let answer = opened.answer;
     give_slot(opened.slot, slot);
     give_work(opened.work, work);
-    kinphlor::pack(answer)
+    kinphlor::pack(opened.answer)
 }
 
 // What a whole call with header strings of these lengths and n bytes of plaintext will report as its work.
@@ -156,10 +160,10 @@ pub extern "C" fn probe_extend_head(
     lens: &[u32],
     work: &mut [u8],
 ) -> u64 {
-    if head.len() != heads::LEN {
+    let Some(first) = heads::load(head) else {
         return NO_BUFFER;
-    }
-    give_head(heads::load(head).extend(header, lens), head, work)
+    };
+    give_head(first.extend(header, lens), head, work)
 }
 
 #[unsafe(no_mangle)]
@@ -170,14 +174,10 @@ pub extern "C" fn probe_begin_sealer_from(
     bytes: &mut [u8],
     work: &mut [u8],
 ) -> u64 {
-    if head.len() != heads::LEN {
+    let Some(first) = heads::load(head) else {
         return NO_BUFFER;
-    }
-    give(
-        Stream::begin_sealer_from(heads::load(head), header, lens),
-        bytes,
-        work,
-    )
+    };
+    give(Stream::begin_sealer_from(first, header, lens), bytes, work)
 }
 
 #[unsafe(no_mangle)]
@@ -189,11 +189,11 @@ pub extern "C" fn probe_begin_opener_from(
     bytes: &mut [u8],
     work: &mut [u8],
 ) -> u64 {
-    if head.len() != heads::LEN {
+    let Some(first) = heads::load(head) else {
         return NO_BUFFER;
-    }
+    };
     give(
-        Stream::begin_opener_from(heads::load(head), header, lens, tag),
+        Stream::begin_opener_from(first, header, lens, tag),
         bytes,
         work,
     )
@@ -201,18 +201,12 @@ pub extern "C" fn probe_begin_opener_from(
 
 #[unsafe(no_mangle)]
 pub extern "C" fn probe_add(bytes: &mut [u8], piece: &[u8], work: &mut [u8]) -> u64 {
-    if bytes.len() != state::LEN {
-        return NO_BUFFER;
-    }
-    give(state::load(bytes).add(piece), bytes, work)
+    on_state(bytes, work, |state| state.add(piece))
 }
 
 #[unsafe(no_mangle)]
 pub extern "C" fn probe_turn(bytes: &mut [u8], output: &mut [u8], work: &mut [u8]) -> u64 {
-    if bytes.len() != state::LEN {
-        return NO_BUFFER;
-    }
-    give(state::load(bytes).turn(output), bytes, work)
+    on_state(bytes, work, |state| state.turn(output))
 }
 
 #[unsafe(no_mangle)]
@@ -222,18 +216,12 @@ pub extern "C" fn probe_write(
     output: &mut [u8],
     work: &mut [u8],
 ) -> u64 {
-    if bytes.len() != state::LEN {
-        return NO_BUFFER;
-    }
-    give(state::load(bytes).write(piece, output), bytes, work)
+    on_state(bytes, work, |state| state.write(piece, output))
 }
 
 #[unsafe(no_mangle)]
 pub extern "C" fn probe_close(bytes: &mut [u8], work: &mut [u8]) -> u64 {
-    if bytes.len() != state::LEN {
-        return NO_BUFFER;
-    }
-    give(state::load(bytes).close(), bytes, work)
+    on_state(bytes, work, |state| state.close())
 }
 
 #[unsafe(no_mangle)]
@@ -243,18 +231,12 @@ pub extern "C" fn probe_feed(
     output: &mut [u8],
     work: &mut [u8],
 ) -> u64 {
-    if bytes.len() != state::LEN {
-        return NO_BUFFER;
-    }
-    give(state::load(bytes).feed(piece, output), bytes, work)
+    on_state(bytes, work, |state| state.feed(piece, output))
 }
 
 #[unsafe(no_mangle)]
 pub extern "C" fn probe_finish(bytes: &mut [u8], output: &mut [u8], work: &mut [u8]) -> u64 {
-    if bytes.len() != state::LEN {
-        return NO_BUFFER;
-    }
-    give(state::load(bytes).finish(output), bytes, work)
+    on_state(bytes, work, |state| state.finish(output))
 }
 
 // Seals input by pieces of at most n bytes, n at least 1: the tag and then the ciphertext to the front of output.
@@ -282,10 +264,11 @@ pub extern "C" fn probe_open_pieces(
     output: &mut [u8],
 ) -> u64 {
     if input.len() < Stream::TAG_LEN {
-        return kinphlor::pack(Answer::Refused(Refusal::SealedLength));
+        return kinphlor::pack(Err(Refusal::SealedLength));
     }
-    let begun = Stream::begin_opener(key, header, lens, &input[0..16]);
-    kinphlor::pack(pieces::open(begun, &input[16..], n, output))
+    let (tag, text) = input.split_at(Stream::TAG_LEN);
+    let begun = Stream::begin_opener(key, header, lens, tag);
+    kinphlor::pack(pieces::open(begun, text, n, output))
 }
 
 // Seals input as records of n bytes, all begun from one head: each record's tag and ciphertext behind the last's in
@@ -299,7 +282,7 @@ pub extern "C" fn probe_seal_records(
     n: usize,
     output: &mut [u8],
 ) -> u64 {
-    kinphlor::pack(records::run(Head::make(key, header, lens), false, input, n, output))
+    kinphlor::pack(records::seal(Head::make(key, header, lens), input, n, output))
 }
 
 // Opens sealed strings of records of n bytes, all begun from one head:
@@ -313,5 +296,5 @@ pub extern "C" fn probe_open_records(
     n: usize,
     output: &mut [u8],
 ) -> u64 {
-    kinphlor::pack(records::run(Head::make(key, header, lens), true, input, n, output))
+    kinphlor::pack(records::open(Head::make(key, header, lens), input, n, output))
 }

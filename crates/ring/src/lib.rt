@@ -1,82 +1,60 @@
 // Whole opening under a ring of keys.
 #![tactic(auto)]
 
-ghost use Rattle.std.specs.Prelude.{◌≡◌};
-ghost use Rattle.aes.specs.Engine.{Ready};
-ghost use Rattle.header.specs.Header.{strings_in, Walkable};
-ghost use Rattle.whole.specs.Ring.{PerformsRing, slot_key, HasSlot, HasSlots, TriesSlots, given_slot};
+ghost use Rattle.header.specs.List.{strings_of};
+ghost use Rattle.whole.specs.Ring.{PerformsRing, slot_key, HasSlot, HasSlots, TriesSlots};
 ghost use Rattle.whole.specs.Siv.{Decrypts, Openable};
 
 use admission::TAG_LEN;
 use aes::Engine;
-use answers::Answer;
-use whole::{Found, RingAnswer, Verdict};
+use header::Header;
+use whole::{Found, Key, RingAnswer, Verdict};
 
-// Opens under the key of one slot of a ring.
-fn try_slot(
-    engine: &Engine,
+// A ring of keys of one length, and what is to be opened under one of them.
+#[derive(Clone, Copy)]
+struct Attempt<'a, 'h> {
     key_len: usize,
-    ring: &[u8],
-    slot: usize,
-    header: &[u8],
-    lens: &[u32],
-    sealed: &[u8],
-    scratch: &mut [u8],
-) -> Verdict
-    requires { Ready engine.now × HasSlot key_len ring.now slot × Walkable header.now lens.now × Openable sealed.now scratch.old }
-    ensures { Decrypts (slot_key key_len ring.now slot) (strings_in header lens) sealed.now scratch result }
-{
-    let at = slot * key_len;
-    siv::admitted::decrypt_and_verify(
-        engine,
-        &ring[at..at + key_len],
-        header,
-        lens,
-        sealed,
-        scratch,
-    )
+    ring: &'a [u8],
+    header: Header<'h>,
+    sealed: &'a [u8],
 }
 
-// Tries the slots of a ring from slot 0 on: ends at the first whose key opens, or behind the last.
-// With a key that opens, its plaintext is at the front of scratch.
-fn try_slots(
-    key_len: usize,
-    slots: usize,
-    ring: &[u8],
-    header: &[u8],
-    lens: &[u32],
-    sealed: &[u8],
-    scratch: &mut [u8],
-) -> Found
-    requires { HasSlots key_len ring.now slots × Walkable header.now lens.now × Openable sealed.now scratch.old }
-    ensures { TriesSlots key_len slots ring.now (strings_in header lens) sealed.now scratch result }
-{
-    let engine = aes::engine();
-    let mut left = slots;
-    let mut work = 0;
-    let slot = loop {
-        if left == 0 {
-            break slots;
-        }
-        let slot = slots - left;
-        let verdict = try_slot(&engine, key_len, ring, slot, header, lens, sealed, scratch);
-        work = work + verdict.work;
-        if verdict.genuine {
-            break slot;
-        }
-        left -= 1;
-    };
-    Found { slot, work }
-}
-
-// The slot that is given: where the search ended, or slot 0 behind the last.
-fn given_slot(found: Found, slots: usize) -> usize
-    ensures { result ≡ given_slot found slots }
-{
-    if found.slot < slots {
-        return found.slot;
+impl Attempt<'_, '_> {
+    // Opens under the key of one slot.
+    fn try_slot(self, engine: &Engine, slot: usize, scratch: &mut [u8]) -> Verdict
+        requires { HasSlot self.key_len self.ring.now slot × Openable self.sealed.now scratch.old }
+        ensures { let a = self.entry in Decrypts (slot_key a.key_len a.ring.now slot) (strings_of a.header) a.sealed.now scratch result }
+    {
+        let at = slot * self.key_len;
+        let key = Key {
+            bytes: &self.ring[at..at + self.key_len],
+        };
+        siv::admitted::decrypt_and_verify(engine, key, self.header, self.sealed, scratch)
     }
-    0
+
+    // Tries the slots from slot 0 on, up to the first whose key opens.
+    // With a key that opens, its plaintext is at the front of scratch.
+    fn try_slots(self, slots: usize, scratch: &mut [u8]) -> Found
+        requires { HasSlots self.key_len self.ring.now slots × Openable self.sealed.now scratch.old }
+        ensures { let a = self.entry in TriesSlots a.key_len slots a.ring.now (strings_of a.header) a.sealed.now scratch result }
+    {
+        let engine = Engine::new();
+        let mut i = 0;
+        let mut work = 0;
+        // No `for`: rule 2.9 wants a loop over the slots that yields by `break`.
+        let slot = loop {
+            if i == slots {
+                break None;
+            }
+            let verdict = self.try_slot(&engine, i, scratch);
+            work += verdict.work;
+            if verdict.genuine {
+                break Some(i);
+            }
+            i += 1;
+        };
+        Found { slot, work }
+    }
 }
 
 // Opens a sealed string under the first key of a ring that opens it.
@@ -93,7 +71,7 @@ pub fn open_ring(
     ensures { PerformsRing key_len ring header lens input output scratch result }
 {
     let y = input.len();
-    let answer = admission::judge_open_ring(
+    if let Err(refusal) = admission::judge_open_ring(
         key_len,
         ring.len(),
         lens,
@@ -101,20 +79,27 @@ pub fn open_ring(
         y,
         output.len(),
         scratch.len(),
-    );
-    if let Answer::Refused(_) = answer {
+    ) {
         return RingAnswer {
-            answer,
+            answer: Err(refusal),
             slot: 0,
             work: 0,
         };
     }
     let slots = ring.len() / key_len;
-    let found = try_slots(key_len, slots, ring, header, lens, input, scratch);
-    let slot = given_slot(found, slots);
+    let attempt = Attempt {
+        key_len,
+        ring,
+        header: Header {
+            bytes: header,
+            lens,
+        },
+        sealed: input,
+    };
+    let found = attempt.try_slots(slots, scratch);
     RingAnswer {
-        answer: siv::admitted::release_or_wipe(found.slot < slots, y - TAG_LEN, output, scratch),
-        slot,
+        answer: siv::admitted::release_or_wipe(found.slot.is_some(), y - TAG_LEN, output, scratch),
+        slot: found.slot.unwrap_or(0),
         work: found.work,
     }
 }

@@ -6,16 +6,18 @@ use Prim.Native.Nat.{ℕ, ◌+◌, ◌-◌, ◌*◌, ◌/◌, ◌%◌, ◌≤◌
 use native.Mathlib.Decide.{dec_lt}
 use native.Mathlib.Omega.{arith}
 use lib.ListN.{length, get_or, take, drop, length-append, length-take, length-drop, take-append-drop}
-use lib.Seq.{take_all, take-append-le, length-take-le, take-append-add, drop-append-add}
+use lib.Seq.{take-append-le, length-take-le, take-append-add, drop-append-add}
 use borrow.Author.Tests.{lt-ltb, le-ltb}
 use Rattle.octets.specs.Octets.{xors, put, part}
 use Rattle.octets.proofs.Strings.{length-xors, length-put, take_put}
+use Rattle.aes.specs.declared.Counted.{Counted}
+use Rattle.aes.specs.Work.{Reports}
 use Rattle.cmac.specs.declared.Subkeys.{Subkeys}
-use Rattle.cmac.specs.Cmac.{zeros, double, pad, blocks_before, chain, cmac_from, cmac_work, cmac}
-use Rattle.cmac.proofs.Laws.{length-double, cmac_work_lem, chain_front, cmac_split}
+use Rattle.cmac.specs.Cmac.{zeros, double, pad, blocks_before, chain, chain_work, cmac_from, cmac_work, cmac}
+use Rattle.cmac.proofs.Laws.{length-double, chain_work_lem, cmac_work_lem, chain_front, cmac_split}
 use Rattle.header.specs.Header.{total, strings}
 use Rattle.header.proofs.Laws.{total-take, strings_more}
-use Rattle.s2v.specs.S2v.{absorb_one, xorend, last_string, tail_length, absorb_strings, absorb_work, header_result, tag_from, tag_from_work, tag}
+use Rattle.s2v.specs.S2v.{absorb_one, xorend, last_string, tail_length, absorb_strings, absorb_work, IsAbsorbed, header_result, tag_from, tag_from_work, tag}
 
 -- ---- the tail
 
@@ -39,6 +41,9 @@ tail n = go (dec_lt n 16)
     go : Dec (n < 16) → Tail n
     go (yes h) = let e : tail_length n ≡ n = tail_short n h in omega arith
     go (no h) = let e : tail_length n ≡ 16 + n % 16 = tail_long n (omega arith) in omega arith
+
+pub tail_lt : (n : ℕ) → tail_length n < 32
+tail_lt n = (tail n).short
 
 -- the blocks before the tail and those before the tail's last are those before the whole's last
 pub tail_blocks : (n : ℕ) → (n - tail_length n) / 16 + blocks_before (tail_length n) ≡ blocks_before n
@@ -128,6 +133,11 @@ tag_work d p e = cmac_work_lem (last_string d p) ∙ go (dec_lt (length p) 16)
     go (yes h) = simp (lt-ltb (length p) 16 h) (omega (arith, length-xors (double d) (pad p), length-double d))
     go (no h) = simp (le-ltb (length p) 16 (omega arith)) (omega (arith, length-xorend p d))
 
+-- the blocks before the tail and those with it
+pub tag_tail_work : (d p : List ℕ) (at : ℕ) → length d ≡ 16 → at ≡ length p - tail_length (length p) → chain_work (at / 16) + tag_from_work d (drop at p) ≡ tag_from_work d p
+tag_tail_work d p at e place =
+    omega (arith, chain_work_lem (at / 16), tag_work d (drop at p) e, tag_work d p e, length-drop at p, tail (length p), tail_blocks (length p))
+
 -- ---- D over the header strings
 
 -- a list cut in two folds the same
@@ -157,36 +167,14 @@ absorb_work_most w bytes [] = omega arith
 absorb_work_most w bytes (n ∷ lens) =
     omega (arith, absorb_work_most (w + cmac_work (take n bytes)) (drop n bytes) lens, cmac_work_lem (take n bytes), length-take n bytes)
 
--- D after the first i strings of a header list
-module _ (E : List ℕ → List ℕ) (k : Subkeys) (d bytes lens : List ℕ) where
-  abbrev pub absorbed : ℕ → List ℕ
-  absorbed i = absorb_strings E k d (strings bytes (take i lens))
+-- D and the work so far, with string i of a header list
+pub absorbed_more : (E : List ℕ → List ℕ) (k : Subkeys) (d : Counted) (bytes lens : List ℕ) (i : ℕ) {b r : Counted} → i < length lens
+    → IsAbsorbed E k d (strings bytes (take i lens)) b
+    → Reports (absorb_one E k b.block (part bytes (total (take i lens)) (get_or lens i 0))) (b.work + cmac_work (part bytes (total (take i lens)) (get_or lens i 0))) r
+    → IsAbsorbed E k d (strings bytes (take (i + 1) lens)) r
+unfolding absorb_strings absorb_work
+absorbed_more E k d bytes lens i h had more = rw (strings_more lens i h bytes, absorb_append, absorb_work-append) record { block = (cc); work = (cc) }
 
-  -- with string i
-  pub absorbed_more : (i : ℕ) → i < length lens → xors (double (absorbed i)) (cmac E k (part bytes (total (take i lens)) (get_or lens i 0))) ≡ absorbed (i + 1)
-  unfolding absorb_strings
-  absorbed_more i h =
-      sym (absorb_append E k d (strings bytes (take i lens)) (part bytes (total (take i lens)) (get_or lens i 0) ∷ []))
-      ∙ ap (absorb_strings E k d) (sym (strings_more lens i h bytes))
-
-  -- with all strings
-  pub absorbed_all : (i : ℕ) → length lens ≤ i → absorbed i ≡ absorb_strings E k d (strings bytes lens)
-  absorbed_all i h = ap (λ (l : List ℕ). absorb_strings E k d (strings bytes l)) (take_all i lens h)
-
--- the work with them
-module _ (w : ℕ) (bytes lens : List ℕ) where
-  abbrev pub worked : ℕ → ℕ
-  worked i = absorb_work w (strings bytes (take i lens))
-
-  pub worked_more : (i : ℕ) → i < length lens → worked i + cmac_work (part bytes (total (take i lens)) (get_or lens i 0)) ≡ worked (i + 1)
-  unfolding absorb_work
-  worked_more i h =
-      sym (absorb_work-append w (strings bytes (take i lens)) (part bytes (total (take i lens)) (get_or lens i 0) ∷ []))
-      ∙ ap (absorb_work w) (sym (strings_more lens i h bytes))
-
-  pub worked_all : (i : ℕ) → length lens ≤ i → worked i ≡ absorb_work w (strings bytes lens)
-  worked_all i h = ap (λ (l : List ℕ). absorb_work w (strings bytes l)) (take_all i lens h)
-
-  -- it is far from the largest number
-  pub worked_most : (i : ℕ) → total lens < 2 ^ 64 → w + length lens ≤ 127 → worked i ≤ 2 ^ 62
-  worked_most i h most = omega (arith, absorb_work_most w bytes (take i lens), total-take lens i, length-take i lens)
+-- the work so far is far from the largest number
+pub absorbed_most : (w : ℕ) (bytes lens : List ℕ) (i : ℕ) → total lens < 2 ^ 64 → w + length lens ≤ 127 → absorb_work w (strings bytes (take i lens)) ≤ 2 ^ 62
+absorbed_most w bytes lens i h most = omega (arith, absorb_work_most w bytes (take i lens), total-take lens i, length-take i lens)

@@ -2,83 +2,61 @@
 #![tactic(auto)]
 
 ghost use Rattle.std.specs.Prelude.{◌≡◌, ◌+◌, ◌≤◌, ◌<◌, ◌^◌, length};
-ghost use Rattle.aes.specs.Cipher.{cipher};
-ghost use Rattle.aes.specs.Engine.{CanEncrypt};
+ghost use Rattle.aes.specs.Keyed.{enciphers};
 ghost use Rattle.aes.specs.Work.{Reports};
 ghost use Rattle.octets.specs.Octets.{xors};
 ghost use Rattle.cmac.specs.Cmac.{double, pad, cmac_work, IsCmacFrom};
-ghost use Rattle.header.specs.Header.{total, strings_in, Walkable};
+ghost use Rattle.header.specs.Header.{total, strings_in};
+ghost use Rattle.header.specs.List.{strings_of};
 ghost use Rattle.s2v.specs.S2v.{xorend, tail_length, absorb_one, IsAbsorbed, IsHeaderResult, IsTagFrom, tag_from_work, tag};
 
-use aes::{Counted, Engine, RoundKeys};
-use cmac::Subkeys;
+use aes::Counted;
+use cmac::Mac;
+use header::Header;
+use header::reader::Reader;
 use octets::Block;
 
 // D with one string more: D doubled, xored with the CMAC of the string, whose work is added.
-fn absorb_string(
-    engine: &Engine,
-    width: usize,
-    keys: &RoundKeys,
-    k: Subkeys,
-    d: Counted,
-    s: &[u8],
-) -> Counted
-    requires { CanEncrypt engine.now width × (d.work ≤ 2 ^ 62) }
-    ensures { Reports (absorb_one (cipher width keys.now) k d.block s.now) (d.work + cmac_work s.now) result }
+#[tactic(auto, using(cmac::proofs::Laws::cmac_work_lem))]
+fn absorb_string(mac: Mac, d: Counted, s: &[u8]) -> Counted
+    requires { d.work ≤ 2 ^ 62 }
+    ensures { Reports (absorb_one (enciphers mac.entry.cipher) mac.entry.subkeys d.block s.now) (d.work + cmac_work s.now) result }
 {
-    let before = d.block;
-    let mac = cmac::cmac_from(engine, width, keys, k, [0u8; 16], s);
-    let m = mac.block;
+    let string = mac.cmac_from([0u8; 16], s);
     Counted {
-        block: octets::xor_block(cmac::double(before), m),
-        work: d.work + mac.work,
+        block: octets::xor_block(cmac::double(d.block), string.block),
+        work: d.work + string.work,
     }
 }
 
 // D from d on over the strings of a header list, and the work from d's on:
 // one reader is made at the front and moved on over each string.
-pub fn absorb_strings(
-    engine: &Engine,
-    width: usize,
-    keys: &RoundKeys,
-    k: Subkeys,
-    d: Counted,
-    bytes: &[u8],
-    lens: &[u32],
-) -> Counted
-    requires { CanEncrypt engine.now width × (total lens.now ≤ length bytes.now) × (d.work + length lens.now ≤ 127) }
-    ensures { IsAbsorbed (cipher width keys.now) k d (strings_in bytes lens) result }
+// Bytes and lengths come apart: a `Header` asks for at most 126 strings, and with no work before them 127 may come.
+#[tactic(auto, using(header::proofs::Laws::total_next))]
+pub fn absorb_strings(mac: Mac, d: Counted, bytes: &[u8], lens: &[u32]) -> Counted
+    requires { (total lens.now ≤ length bytes.now) × (d.work + length lens.now ≤ 127) }
+    ensures { IsAbsorbed (enciphers mac.entry.cipher) mac.entry.subkeys d (strings_in bytes lens) result }
 {
     let mut b = d;
-    let mut reader = header::reader::new(bytes, 0);
-    let mut i = 0;
-    while i < lens.len() {
-        let n = header::length_at(lens, i);
-        b = absorb_string(engine, width, keys, k, b, header::reader::next(reader, n));
-        reader = header::reader::moved(reader, n);
-        i += 1;
+    let mut reader = Reader::new(bytes, 0);
+    for len in lens {
+        let n = *len as usize;
+        b = absorb_string(mac, b, reader.next(n));
+        reader = reader.moved(n);
     }
     b
 }
 
 // D over the strings of a header list.
-pub fn make_header_result(
-    engine: &Engine,
-    width: usize,
-    keys: &RoundKeys,
-    k: Subkeys,
-    bytes: &[u8],
-    lens: &[u32],
-) -> Counted
-    requires { CanEncrypt engine.now width × Walkable bytes.now lens.now }
-    ensures { IsHeaderResult (cipher width keys.now) k (strings_in bytes lens) result }
+pub fn make_header_result(mac: Mac, header: Header) -> Counted
+    ensures { IsHeaderResult (enciphers mac.entry.cipher) mac.entry.subkeys (strings_of header.entry) result }
 {
     let zero = [0u8; 16];
-    let d = cmac::cmac_from(engine, width, keys, k, zero, &zero);
-    absorb_strings(engine, width, keys, k, d, bytes, lens)
+    absorb_strings(mac, mac.cmac_from(zero, &zero), header.bytes, header.lens)
 }
 
 // How many bytes at the end of a plaintext of n bytes wait for its end.
+#[tactic(auto, unfolding(crate::specs::S2v::tail_length))]
 pub fn tail_len(n: usize) -> usize
     ensures { result ≡ tail_length n }
 {
@@ -88,83 +66,47 @@ pub fn tail_len(n: usize) -> usize
     16 + n % 16
 }
 
-// V of a short plaintext, or of a short end.
-fn tag_short(
-    engine: &Engine,
-    width: usize,
-    keys: &RoundKeys,
-    k: Subkeys,
-    d: Block,
-    c: Block,
-    p: &[u8],
-) -> Counted
-    requires { CanEncrypt engine.now width × (length p.now < 16) }
-    ensures { IsCmacFrom (cipher width keys.now) k c (xors (double d) (pad p.now)) result }
+// V of a short plaintext, or of a short end. D, chain and end come one by one, as the standard has them.
+fn tag_short(mac: Mac, d: Block, c: Block, p: &[u8]) -> Counted
+    requires { length p.now < 16 }
+    ensures { IsCmacFrom (enciphers mac.entry.cipher) mac.entry.subkeys c (xors (double d) (pad p.now)) result }
 {
-    let t = cmac::xor_padded(cmac::double(d), p);
-    cmac::cmac_from(engine, width, keys, k, c, &t)
+    mac.cmac_from(c, &cmac::xor_padded(cmac::double(d), p))
 }
 
 // V of an end of 16 to 31 bytes.
-fn tag_long(
-    engine: &Engine,
-    width: usize,
-    keys: &RoundKeys,
-    k: Subkeys,
-    d: Block,
-    c: Block,
-    p: &[u8],
-) -> Counted
-    requires { CanEncrypt engine.now width × (16 ≤ length p.now) × (length p.now < 32) }
-    ensures { IsCmacFrom (cipher width keys.now) k c (xorend p.now d) result }
+fn tag_long(mac: Mac, d: Block, c: Block, p: &[u8]) -> Counted
+    requires { (16 ≤ length p.now) × (length p.now < 32) }
+    ensures { IsCmacFrom (enciphers mac.entry.cipher) mac.entry.subkeys c (xorend p.now d) result }
 {
-    let n = p.len();
-    let at = n - 16;
+    let at = p.len() - 16;
     let mut t = [0u8; 32];
     octets::copy_at(&mut t, 0, p);
     octets::xor_at(&mut t, at, &p[at..], &d);
-    cmac::cmac_from(engine, width, keys, k, c, &t[0..n])
+    mac.cmac_from(c, &t[..p.len()])
 }
 
 // V, where c is the chain over the plaintext's blocks before its end.
-pub fn tag_from(
-    engine: &Engine,
-    width: usize,
-    keys: &RoundKeys,
-    k: Subkeys,
-    d: Block,
-    c: Block,
-    p: &[u8],
-) -> Counted
-    requires { CanEncrypt engine.now width × (length p.now < 32) }
-    ensures { IsTagFrom (cipher width keys.now) k d c p.now result }
+#[tactic(auto, unfolding(crate::specs::S2v::last_string, crate::specs::S2v::tag_from, crate::specs::S2v::tag_from_work))]
+pub fn tag_from(mac: Mac, d: Block, c: Block, p: &[u8]) -> Counted
+    requires { length p.now < 32 }
+    ensures { IsTagFrom (enciphers mac.entry.cipher) mac.entry.subkeys d c p.now result }
 {
     if p.len() < 16 {
-        return tag_short(engine, width, keys, k, d, c, p);
+        return tag_short(mac, d, c, p);
     }
-    tag_long(engine, width, keys, k, d, c, p)
+    tag_long(mac, d, c, p)
 }
 
 // V from D and the plaintext.
-pub fn tag(
-    engine: &Engine,
-    width: usize,
-    keys: &RoundKeys,
-    k: Subkeys,
-    d: Block,
-    p: &[u8],
-) -> Counted
-    requires { CanEncrypt engine.now width }
-    ensures { Reports (tag (cipher width keys.now) k d p.now) (tag_from_work d p.now) result }
+pub fn tag(mac: Mac, d: Block, p: &[u8]) -> Counted
+    ensures { Reports (tag (enciphers mac.entry.cipher) mac.entry.subkeys d p.now) (tag_from_work d p.now) result }
 {
-    let n = p.len();
-    let at = n - tail_len(n);
-    let before = cmac::chain_blocks(engine, width, keys, [0u8; 16], p, at / 16);
-    let c = before.block;
-    let end = tag_from(engine, width, keys, k, d, c, &p[at..]);
-    let block = end.block;
+    let at = p.len() - tail_len(p.len());
+    let before = cmac::chain_blocks(mac.cipher, [0u8; 16], p, at / 16);
+    let end = tag_from(mac, d, before.block, &p[at..]);
     Counted {
-        block,
         work: before.work + end.work,
+        ..end
     }
 }

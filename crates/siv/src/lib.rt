@@ -6,8 +6,9 @@ pub mod admitted;
 ghost use Rattle.whole.specs.Calls.{seal_call, open_call, Performs};
 
 use admission::TAG_LEN;
-use answers::Answer;
-use whole::Report;
+use aes::Engine;
+use header::Header;
+use whole::{Key, Report};
 
 // Seals input under a key and a header list: the tag, then the ciphertext, to the front of output.
 pub fn seal(
@@ -21,21 +22,31 @@ pub fn seal(
     ensures { Performs seal_call key header lens input output scratch result }
 {
     let n = input.len();
-    let answer = admission::judge_seal(
+    if let Err(refusal) = admission::judge_seal(
         key.len(),
         lens,
         header.len(),
         n,
         output.len(),
         scratch.len(),
-    );
-    if let Answer::Refused(_) = answer {
-        return Report { answer, work: 0 };
+    ) {
+        return Report {
+            answer: Err(refusal),
+            work: 0,
+        };
     }
-    let work = admitted::seal_admitted(key, header, lens, input, output);
+    let work = admitted::seal_admitted(
+        Key { bytes: key },
+        Header {
+            bytes: header,
+            lens,
+        },
+        input,
+        output,
+    );
     octets::zero_at(scratch, 0, admission::scratch_need(n));
     Report {
-        answer: Answer::Ok(n + TAG_LEN),
+        answer: Ok(n + TAG_LEN),
         work,
     }
 }
@@ -52,19 +63,30 @@ pub fn open(
     ensures { Performs open_call key header lens input output scratch result }
 {
     let y = input.len();
-    let answer = admission::judge_open(
+    if let Err(refusal) = admission::judge_open(
         key.len(),
         lens,
         header.len(),
         y,
         output.len(),
         scratch.len(),
-    );
-    if let Answer::Refused(_) = answer {
-        return Report { answer, work: 0 };
+    ) {
+        return Report {
+            answer: Err(refusal),
+            work: 0,
+        };
     }
-    let engine = aes::engine();
-    let verdict = admitted::decrypt_and_verify(&engine, key, header, lens, input, scratch);
+    let engine = Engine::new();
+    let verdict = admitted::decrypt_and_verify(
+        &engine,
+        Key { bytes: key },
+        Header {
+            bytes: header,
+            lens,
+        },
+        input,
+        scratch,
+    );
     Report {
         answer: admitted::release_or_wipe(verdict.genuine, y - TAG_LEN, output, scratch),
         work: verdict.work,

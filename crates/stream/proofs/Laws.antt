@@ -2,45 +2,42 @@
 -- Assumes nothing.
 use mathlib.Core.Path.{◌≡◌, refl, ap, ap₂, sym, subst, ◌∙◌}
 use mathlib.Core.Bool.{Bool, true, false, not, cond, ◌&&◌, and-eq-true_iff}
-use mathlib.Core.List.{List, [], ◌++◌, append_assoc}
+use mathlib.Core.List.{List, [], ◌∷◌, ◌++◌, append_assoc}
+use native.Mathlib.Nat.{zero-add}
 use Prim.Native.Nat.{ℕ, ◌+◌, ◌-◌, ◌≤◌}
 use native.Mathlib.Decide.{ℕ_discrete}
 use native.Mathlib.Omega.{arith}
 use lib.Dec.{eqb, ltb}
-use lib.ListN.{length, take, drop}
-use lib.Seq.{take_all, length-take-le, take_at, drop_at}
+use lib.ListN.{length, take, drop, replicate}
+use lib.Seq.{length-take-le, take_at, drop_at}
 use borrow.Author.Tests.{eqb-true, eq-eqb, ne_eqb, ltb-false, not-true, not-false}
-use Rattle.octets.specs.Octets.{put, part, same}
+use Rattle.octets.specs.Octets.{put, same}
 use Rattle.octets.proofs.Strings.{part_to}
 use Rattle.aes.specs.Aes.{is_width}
 use Rattle.aes.specs.Cipher.{cipher}
 use Rattle.aes.proofs.Widths.{width}
 use Rattle.s2v.specs.S2v.{tail_length}
 use Rattle.keystream.proofs.Laws.{length-xor_piece}
-use Rattle.answers.specs.declared.Answer.{Answer}
-use Rattle.answers.specs.Answer.{Outcome, Row, first, settle, Judges, outcome_of, refusal}
-use Rattle.answers.proofs.Laws.{IsRefused, was_due, lacks, outcome_number, outcome_work, not_due, first-append, settle_complete, settle_refused, by_complete, by_refusal, settle_rows, settle_test}
+use Rattle.std.specs.Prelude.{Err}
+use Rattle.std.specs.Array.{IsWholeChunk}
+use Rattle.answers.specs.declared.Refusal.{Refusal}
+use Rattle.answers.specs.Answer.{Outcome, Row, row, first, settle, Judges, Judgement, judged, number_of, outcome_of}
+use Rattle.answers.proofs.Laws.{was_due, lacks, outcome_number, outcome_work, not_due, first-append, settle_complete, settle_refused, by_complete, by_refusal, settle_rows, settle_test}
 use Rattle.tail.specs.declared.Absorbed.{Absorbed}
 use Rattle.tail.specs.Tail.{AfterPiece}
 use Rattle.whole.specs.Calls.{limit}
 use Rattle.head.specs.declared.Head.{Head}
 use Rattle.head.specs.declared.Made.{Made}
 use Rattle.head.specs.Head.{MakeResult, DidMake, made_head, refused_head}
+use Rattle.head.proofs.Laws.{Zeros, zeros_by_default}
 use Rattle.stream.specs.declared.Step.{Step}
 use Rattle.stream.specs.declared.Stream.{Stream}
-use Rattle.stream.specs.State.{written_limit, kept_fits, fits, Absorbs, added, added_work, ended, start, tag_of_state, tag_of_state_work, streamed_at}
-use Rattle.stream.specs.Steps.{StepResult, DidStep, done_step, refused_step, forged_step, begin_by, tag_rows, finish_step, add_rows, turn_rows, write_rows, feed_rows, finish_rows}
+use Rattle.stream.specs.State.{written_limit, kept_fits, fits, Fit, state_with, Absorbs, added, added_work, ended, start, tag_of_state, tag_of_state_work, streamed_at}
+use Rattle.stream.specs.Steps.{StepResult, DidStep, done_step, refused_step, forged_step, begin_by, tag_rows, finish_step, write_rows, finish_rows}
 
 -- ---- what refusal 9 judges
 
--- what a state that fits may be relied on for
-pub record Fit (wanted : ℕ) (s : Stream) : Type 0 where
-  pub width : s.width ≤ 32
-  pub total : s.total ≤ limit
-  pub written : s.written ≤ written_limit wanted s.total
-  pub tail_len : s.tail_len ≡ tail_length s.total
-
-pub fit : (wanted : ℕ) (s : Stream) → fits wanted s ≡ true → Fit wanted s
+pub fit : (wanted : ℕ) (s : Stream) → fits wanted s ≡ true → Fit s
 unfolding fits
 fit wanted s e =
     let judged =
@@ -49,72 +46,58 @@ fit wanted s e =
     let t = (and-eq-true_iff _ (eqb s.tail_len (tail_length s.total))).0 k.0 in
     let b = (and-eq-true_iff _ (not (ltb (written_limit wanted s.total) s.written))).0 t.0 in
     let d = (and-eq-true_iff _ (not (ltb limit s.total))).0 b.0 in
-    let f = (and-eq-true_iff (eqb s.stage wanted) (is_width s.width)).0 d.0 in
     record {
-      width = (width s.width f.1).high;
+      width = (width s.width ((and-eq-true_iff (eqb s.stage wanted) (is_width s.width)).0 d.0).1).high;
       total = ltb-false limit s.total (not-true (ltb limit s.total) d.1);
-      written = ltb-false (written_limit wanted s.total) s.written (not-true (ltb (written_limit wanted s.total) s.written) b.1);
       tail_len = eqb-true s.tail_len (tail_length s.total) t.1;
     }
 
 -- what was judged of a state by a test that says whether it fits
-pub judged_by : (wanted : ℕ) (s : Stream) (rest : ℕ) {f : Bool} {o : Outcome} → f ≡ fits wanted s → o ≡ refusal (cond (not f) 9 rest) → o ≡ refusal (cond (not (fits wanted s)) 9 rest)
-judged_by wanted s rest e o = o ∙ ap (λ (f : Bool). refusal (cond (not f) 9 rest)) e
+pub judged_by : (wanted : ℕ) (s : Stream) (rest : ℕ) {f : Bool} {n : ℕ} → f ≡ fits wanted s → n ≡ cond (not f) 9 rest → n ≡ cond (not (fits wanted s)) 9 rest
+judged_by wanted s rest e o = o ∙ ap (λ (f : Bool). cond (not f) 9 rest) e
+
+-- a write's, whose output is filled from place 0 on
+pub write_judged : (s : Stream) (n output : ℕ) {f : Bool} {k : ℕ} → f ≡ fits 2 s
+    → k ≡ first (row 9 (not f) ∷ row 4 (ltb s.total (s.written + n)) ∷ row 6 (ltb output (0 + n)) ∷ []) → k ≡ first (write_rows s n output)
+write_judged s n output e o = simp zero-add at (judged_by 2 s _ e o)
 
 -- ---- the calls' results
 
 module _ (n : ℕ) (result : StepResult) (s : Stream) (output : List ℕ) {step : Step} {last : List ℕ} where
-  pub refused : (a : Answer) → IsRefused a → outcome_of a 0 ≡ refusal n → DidStep (record { outcome = outcome_of a 0; state = s; output = output }) step last
-      → DidStep (settle n result (λ m. refused_step m s output)) step last
-  refused a k e d = by_refusal n result (λ o. record { outcome = o; state = s; output = output }) (λ (r : StepResult). DidStep r step last) a k e d
+  pub refused : (r : Refusal) → number_of r ≡ n → DidStep (refused_step (number_of r) s output) step last → DidStep (settle n result (λ m. refused_step m s output)) step last
+  refused r k d = by_refusal n result (λ o. record { outcome = o; state = s; output = output }) (λ (g : StepResult). DidStep g step last) r k d
 
-  pub done : n ≡ 0 → DidStep result step last → DidStep (settle n result (λ m. refused_step m s output)) step last
-  done e d = by_complete n result (λ m. refused_step m s output) (λ (r : StepResult). DidStep r step last) e d
+  pub done : 0 ≡ n → DidStep result step last → DidStep (settle n result (λ m. refused_step m s output)) step last
+  done e d = by_complete n result (λ m. refused_step m s output) (λ (g : StepResult). DidStep g step last) (sym e) d
 
 -- a state that is another is handed back as that
 pub in_state : {o : Outcome} {s t : Stream} {output last : List ℕ} {step : Step} → s ≡ t → DidStep (record { outcome = o; state = s; output = output }) step last
     → DidStep (record { outcome = o; state = t; output = output }) step last
 in_state e d = record { outcome = d.outcome; state = d.state ∙ e; output = d.output }
 
+-- the default of each field makes the ended state
+pub ended_by_default : (s : Stream)
+    → (s.stage ≡ 0) × ((s.width ≡ 0) × (Zeros s.mac_keys 240 × (Zeros s.ctr_keys 240 × (Zeros s.l 16 × (Zeros s.d 16 × (Zeros s.chain 16 × (Zeros s.v 16
+    × (Zeros s.kept 16 × ((s.total ≡ 0) × ((s.written ≡ 0) × ((s.tail_len ≡ 0) × Zeros s.tail 31)))))))))))
+    → s ≡ ended
+ended_by_default s (stage, (width, (macs, (ctrs, (l, (d, (chain, (v, (kept, (total, (written, (len, tail)))))))))))) =
+    let z : (n : ℕ) (xs : List ℕ) → Zeros xs n → xs ≡ replicate n 0 = zeros_by_default in
+    let made : state_with s s.chain s.total s.tail_len s.tail ≡ ended =
+    simp (stage, width, z _ _ macs, z _ _ ctrs, z _ _ l, z _ _ d, z _ _ chain, z _ _ v, z _ _ kept, total, written, len, z _ _ tail) refl in
+    made
+
 -- ---- what the refusals leave
 
-module _ (s : Stream) where
-  stated : (wanted rest : ℕ) → cond (not (fits wanted s)) 9 rest ≡ 0 → Fit wanted s × (rest ≡ 0)
-  stated wanted rest e =
-      let a = not_due (not (fits wanted s)) 8 rest e in
-      (fit wanted s (not-false (fits wanted s) a.0), a.1)
+-- a state that is not refused fits
+pub admits : (wanted rest : ℕ) {s : Stream} {f : Bool} → f ≡ fits wanted s → 0 ≡ cond (not f) 9 rest → Fit s
+admits wanted rest {s} e none = fit wanted s (sym e ∙ not-false _ (not_due _ 8 rest (sym none)).0)
 
-  pub add_admits : (n : ℕ) → first (add_rows s n) ≡ 0 → Fit 1 s × (s.total + n ≤ limit)
-  add_admits n e =
-      let a = stated 1 _ e in
-      let b = not_due (ltb limit (s.total + n)) 3 0 a.1 in
-      (a.0, ltb-false limit (s.total + n) b.0)
-
-  pub turn_admits : (output : ℕ) → first (turn_rows s output) ≡ 0 → Fit 1 s × (16 ≤ output)
-  turn_admits output e =
-      let a = stated 1 _ e in
-      let b = not_due (ltb output 16) 5 0 a.1 in
-      (a.0, ltb-false output 16 b.0)
-
-  pub write_admits : (n output : ℕ) → first (write_rows s n output) ≡ 0 → Fit 2 s × (s.written + n ≤ s.total) × (n ≤ output)
-  write_admits n output e =
-      let a = stated 2 _ e in
-      let b = not_due (ltb s.total (s.written + n)) 3 _ a.1 in
-      let d = not_due (ltb output n) 5 0 b.1 in
-      (a.0, ltb-false s.total (s.written + n) b.0, ltb-false output n d.0)
-
-  pub feed_admits : (n output : ℕ) → first (feed_rows s n output) ≡ 0 → Fit 3 s × (s.total + n ≤ limit) × (s.total + n ≤ output)
-  feed_admits n output e =
-      let a = stated 3 _ e in
-      let b = not_due (ltb limit (s.total + n)) 3 _ a.1 in
-      let d = not_due (ltb output (s.total + n)) 5 0 b.1 in
-      (a.0, ltb-false limit (s.total + n) b.0, ltb-false output (s.total + n) d.0)
-
-  pub finish_admits : (output : ℕ) → first (finish_rows s output) ≡ 0 → Fit 3 s × (s.total ≤ output)
-  finish_admits output e =
-      let a = stated 3 _ e in
-      let b = not_due (ltb output s.total) 5 0 a.1 in
-      (a.0, ltb-false output s.total b.0)
+-- a piece that is not refused is within its limit, and has room in the output
+pub piece_admits : (f : Bool) (most used n at output : ℕ)
+    → 0 ≡ first (row 9 (not f) ∷ row 4 (ltb most (used + n)) ∷ row 6 (ltb output (at + n)) ∷ []) → (used + n ≤ most) × (at + n ≤ output)
+piece_admits f most used n at output e =
+    let b = not_due (ltb most (used + n)) 3 _ (not_due (not f) 8 _ (sym e)).1 in
+    (ltb-false most (used + n) b.0, ltb-false output (at + n) (not_due (ltb output (at + n)) 5 0 b.1).0)
 
 -- ---- what is done once a call is admitted
 
@@ -140,8 +123,8 @@ read_back l at n p e long room =
     ∙ take_at p (drop (at + length p) l) n long
 
 module _ (s : Stream) (output : List ℕ) where
-  abbrev judged : List Row
-  judged = finish_rows s (length output)
+  abbrev table : List Row
+  table = finish_rows s (length output)
 
   abbrev test : Bool
   test = same (tag_of_state s) s.v
@@ -152,19 +135,19 @@ module _ (s : Stream) (output : List ℕ) where
   abbrev untouched : ℕ → StepResult
   untouched n = refused_step n s output
 
-  pub finish_refused : (a : Answer) {step : Step} → IsRefused a → Judges (finish_rows s (length output)) a
-      → DidStep (record { outcome = outcome_of a 0; state = s; output = output }) step output → DidStep (finish_step s output) step output
+  pub finish_refused : (r : Refusal) {step : Step} → Judges (finish_rows s (length output)) (Err r) → DidStep (refused_step (number_of r) s output) step output
+      → DidStep (finish_step s output) step output
   unfolding finish_step
-  finish_refused a {step} k e d =
-      subst (λ (r : StepResult). DidStep r step output)
-      (ap (λ (o : Outcome). record { outcome = o; state = s; output = output }) e ∙ sym (settle_rows judged test complete (forged_step s output) untouched refl (was_due a (first judged) k e))) d
+  finish_refused r {step} e d =
+      subst (λ (g : StepResult). DidStep g step output)
+      (ap (λ (n : ℕ). refused_step n s output) e ∙ sym (settle_rows table test complete (forged_step s output) untouched refl (was_due r (first table) e))) d
 
   -- past its refusals finish is by the tag
-  pub finish_told : (t : Bool) → same (tag_of_state s) s.v ≡ t → first (finish_rows s (length output)) ≡ 0
+  pub finish_told : (t : Bool) → same (tag_of_state s) s.v ≡ t → 0 ≡ first (finish_rows s (length output))
       → {step : Step} {last : List ℕ} → DidStep (cond t (done_step s.total (tag_of_state_work s) ended output) (forged_step s output)) step last → DidStep (finish_step s output) step last
   unfolding finish_step
   finish_told t e none {step} {last} d =
-      subst (λ (r : StepResult). DidStep r step last) (sym (settle_test judged test complete (forged_step s output) untouched refl t e none)) d
+      subst (λ (r : StepResult). DidStep r step last) (sym (settle_test table test complete (forged_step s output) untouched refl t e (sym none))) d
 
 -- ---- begin
 
@@ -197,11 +180,10 @@ module _ (rows : List Row) (present : lacks 0 rows ≡ true) (w : ℕ) (h : Head
   by_length t e = first-append rows (tag_rows (length tag)) present ∙ ap (λ (u : Bool). cond (eqb (first rows) 0) (cond (not u) 5 0) (first rows)) e
 
   -- a tag of 16 bytes leaves the number to the rows before it
-  pub begins_tagged : (made : Made) (v : List ℕ) {step : Step} → length tag ≡ 16 → v ≡ part tag 0 16 → DidMake (settle (first rows) (made_head w h) refused_head) made
+  pub begins_tagged : (made : Made) (v : List ℕ) {step : Step} → IsWholeChunk tag v 16 → DidMake (settle (first rows) (made_head w h) refused_head) made
       → DidStep (begin_by (outcome_of made.answer 0).number made.work made.head 3 v) step [] → DidStep (begin_by (first (rows ++ tag_rows (length tag))) w h 3 tag) step []
-  begins_tagged made v {step} e p m d =
-      let whole : part tag 0 16 ≡ tag = take_all 16 tag (omega arith) in
-      subst (λ (r : StepResult). DidStep r step []) (ap₂ (λ (n : ℕ) (x : List ℕ). begin_by n w h 3 x) (sym (by_length true (eq-eqb (length tag) 16 e) ∙ kept (eqb (first rows) 0) refl)) (p ∙ whole))
+  begins_tagged made v {step} whole m d =
+      subst (λ (r : StepResult). DidStep r step []) (ap₂ (λ (n : ℕ) (x : List ℕ). begin_by n w h 3 x) (sym (by_length true (eq-eqb (length tag) 16 whole.long) ∙ kept (eqb (first rows) 0) refl)) whole.same)
       (begins (first rows) w h made 3 v m d)
     where
       kept : (t : Bool) → eqb (first rows) 0 ≡ t → cond t 0 (first rows) ≡ first rows
@@ -209,12 +191,12 @@ module _ (rows : List Row) (present : lacks 0 rows ≡ true) (w : ℕ) (h : Head
       kept false z = refl
 
   -- any other is refused, with 5 where no row before it is due
-  pub begins_refused_tag : (before : Answer) {step : Step} → eqb (length tag) 16 ≡ false → Judges rows before
-      → DidStep (refused_step (settle (outcome_of before 0).number 5 (λ m. m)) ended []) step []
+  pub begins_refused_tag : (before : Judgement) {step : Step} → (length tag ≡ 16 → ⊥) → Judges rows before
+      → DidStep (refused_step (settle (judged before) 5 (λ m. m)) ended []) step []
       → DidStep (begin_by (first (rows ++ tag_rows (length tag))) w h 3 tag) step []
-  begins_refused_tag before {step} e o d =
-      let number : (outcome_of before 0).number ≡ first rows = ap (λ (x : Outcome). x.number) o in
-      let same_number = ap (λ (m : ℕ). settle m 5 (λ i. i)) number ∙ sym (by_length false e) in
+  begins_refused_tag before {step} other o d =
+      let e = ne_eqb (length tag) 16 other in
+      let same_number = ap (λ (m : ℕ). settle m 5 (λ i. i)) o ∙ sym (by_length false e) in
       subst (λ (r : StepResult). DidStep r step [])
       (ap (λ (m : ℕ). refused_step m ended []) same_number
       ∙ sym (settle_refused _ (done_step 0 w (start h 3 tag) []) (λ m. refused_step m ended []) (λ z. some (ℕ_discrete (first rows) 0) (sym (by_length false e) ∙ z)))) d

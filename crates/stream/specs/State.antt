@@ -1,7 +1,7 @@
 -- The stream state: which ones a call takes, and what a piece makes of one.
 -- Rules 9.2, 9.3, 9.9, 9.10, 14.2 and 15.8.
 -- Assumes nothing.
-use Rattle.std.specs.Prelude.{◌≡◌, Bool, not, cond, ◌&&◌, ◌||◌, List, ◌++◌, ℕ, ◌+◌, ◌*◌, ◌%◌, eqb, ltb, length, take, drop, replicate}
+use Rattle.std.specs.Prelude.{◌≡◌, Bool, not, cond, ◌&&◌, ◌||◌, List, ◌++◌, ℕ, ◌+◌, ◌*◌, ◌%◌, ◌≤◌, eqb, ltb, length, take, drop, replicate}
 use Rattle.octets.specs.Octets.{all_zero}
 use Rattle.aes.specs.Aes.{is_width}
 use Rattle.aes.specs.Cipher.{cipher}
@@ -12,7 +12,15 @@ use Rattle.tail.specs.declared.Absorbed.{Absorbed}
 use Rattle.tail.specs.Tail.{tail_of, leaving_blocks}
 use Rattle.whole.specs.Calls.{limit}
 use Rattle.head.specs.declared.Head.{Head}
+use Rattle.stream.specs.declared.Stage.{Stage}
+use Rattle.stream.specs.declared.Stage.TheVariants.{Adding, Writing, Feeding}
 use Rattle.stream.specs.declared.Stream.{Stream}
+
+-- a stage's number, which a state has in its field
+abbrev pub stage_number : Stage → ℕ
+stage_number Adding = 1
+stage_number Writing = 2
+stage_number Feeding = 3
 
 -- the ended state: all fields zero
 abbrev pub ended : Stream
@@ -75,6 +83,12 @@ fits wanted s =
     && eqb s.tail_len (tail_length s.total)
     && kept_fits wanted s
     && all_zero (drop (tail_length s.total) s.tail)
+
+-- what a state that fits may be relied on for
+pub record Fit (s : Stream) : Type 0 where
+  pub width : s.width ≤ 32
+  pub total : s.total ≤ limit
+  pub tail_len : s.tail_len ≡ tail_length s.total
 
 -- the used bytes of the tail, which wait for the plaintext's end: "held bytes" of the owner's document 01
 abbrev pub used_tail : Stream → List ℕ

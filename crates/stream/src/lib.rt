@@ -6,23 +6,34 @@ mod begin;
 mod judge;
 
 ghost use Rattle.std.specs.Prelude.{◌≡◌, List, [], ℕ};
-ghost use Rattle.answers.specs.Answer.{outcome_of};
-ghost use Rattle.stream.specs.State.{ended};
-ghost use Rattle.stream.specs.Steps.{DidStep, begin_sealer, begin_opener, begin_sealer_from, begin_opener_from};
+ghost use Rattle.answers.specs.Answer.{number_of};
+ghost use Rattle.stream.specs.State.{ended, state_with};
+ghost use Rattle.stream.specs.Steps.{DidStep, refused_step, begin_sealer, begin_opener, begin_sealer_from, begin_opener_from};
 ghost use Rattle.stream.specs.Steps.{add_step, turn_step, write_step, close_step, feed_step, finish_step};
 
+use admitted::Admitted;
 use aes::RoundKeys;
 use answers::{Answer, Refusal};
 use head::Head;
 use octets::Block;
+use tail::Absorbed;
 
 // The bytes that wait for the plaintext's end, and zeros behind them.
 pub type Tail = tail::Tail;
 
-// A stream state, of a sealer or an opener.
+// The stage that a call wants, or that a begin gives.
 #[derive(Clone, Copy)]
+pub(crate) enum Stage {
+    Adding = 1,
+    Writing = 2,
+    Feeding = 3,
+}
+
+// A stream state, of a sealer or an opener.
+#[derive(Clone, Copy, Default)]
 pub struct Stream {
-    // 0 ended, 1 adding, 2 writing, 3 feeding.
+    // 0 ended, 1 adding, 2 writing, 3 feeding. It stays a number and no Stage:
+    // a state that is given may hold any, and the theorems speak of every one.
     pub stage: u8,
     // The length of one half of the key.
     pub width: usize,
@@ -64,29 +75,15 @@ pub struct Step {
 pub(crate) fn ended() -> Stream
     ensures { result ≡ ended }
 {
-    Stream {
-        stage: 0,
-        width: 0,
-        mac_keys: [0u8; 240],
-        ctr_keys: [0u8; 240],
-        l: [0u8; 16],
-        d: [0u8; 16],
-        chain: [0u8; 16],
-        v: [0u8; 16],
-        kept: [0u8; 16],
-        total: 0,
-        written: 0,
-        tail_len: 0,
-        tail: [0u8; 31],
-    }
+    Stream::default()
 }
 
 // A refusal, with a state and no work; the output, if one is lent, is as it came.
-pub(crate) fn refused(answer: Answer, state: Stream) -> Step
-    ensures { (output : List ℕ) → DidStep (record { outcome = outcome_of answer 0; state = state; output = output }) result output }
+pub(crate) fn refused(refusal: Refusal, state: Stream) -> Step
+    ensures { (output : List ℕ) → DidStep (refused_step (number_of refusal) state output) result output }
 {
     Step {
-        answer,
+        answer: Err(refusal),
         state,
         work: 0,
     }
@@ -102,56 +99,63 @@ impl Stream {
     pub fn begin_sealer(key: &[u8], header: &[u8], lens: &[u32]) -> Step
         ensures { DidStep (begin_sealer key.now header.now lens.now) result [] }
     {
-        begin::begin_with(Head::make(key, header, lens), 1, [0u8; 16])
+        begin::begin_with(Head::make(key, header, lens), Stage::Adding, [0u8; 16])
     }
 
     // An opener's state from a key, a header list and a tag.
     pub fn begin_opener(key: &[u8], header: &[u8], lens: &[u32], tag: &[u8]) -> Step
         ensures { DidStep (begin_opener key.now header.now lens.now tag.now) result [] }
     {
-        if !judge::is_tag(tag) {
+        let Ok(v) = Block::try_from(tag) else {
             return begin::refuse_tag(admission::judge_header(key.len(), lens, header.len()));
-        }
-        begin::begin_with(Head::make(key, header, lens), 3, octets::load(tag, 0))
+        };
+        begin::begin_with(Head::make(key, header, lens), Stage::Feeding, v)
     }
 
     // A sealer's state from a head and the strings of the header list that follow its own.
     pub fn begin_sealer_from(head: Head, rest: &[u8], lens: &[u32]) -> Step
         ensures { DidStep (begin_sealer_from head rest.now lens.now) result [] }
     {
-        begin::begin_with(head.extend(rest, lens), 1, [0u8; 16])
+        begin::begin_with(head.extend(rest, lens), Stage::Adding, [0u8; 16])
     }
 
     // An opener's state from a head, the strings that follow its own, and a tag.
     pub fn begin_opener_from(head: Head, rest: &[u8], lens: &[u32], tag: &[u8]) -> Step
         ensures { DidStep (begin_opener_from head rest.now lens.now tag.now) result [] }
     {
-        if !judge::is_tag(tag) {
+        let Ok(v) = Block::try_from(tag) else {
             return begin::refuse_tag(head::judge::judge_rest(head, lens, rest.len()));
-        }
-        begin::begin_with(head.extend(rest, lens), 3, octets::load(tag, 0))
+        };
+        begin::begin_with(head.extend(rest, lens), Stage::Feeding, v)
+    }
+
+    // Keeps what a piece leaves. An array goes into a literal or a field by a local, here and below: straight from a
+    // field the proof does not close.
+    fn keep(&mut self, left: Absorbed)
+        ensures { self.new ≡ state_with self.old left.chain.block left.total left.tail_len left.tail }
+    {
+        let chain = left.chain.block;
+        let tail = left.tail;
+        self.chain = chain;
+        self.total = left.total;
+        self.tail_len = left.tail_len;
+        self.tail = tail;
     }
 
     // Adds a piece of plaintext.
     pub fn add(mut self, piece: &[u8]) -> Step
         ensures { DidStep (add_step self piece.now) result [] }
     {
-        let answer = bounds::piece(judge::fits(1, self), Self::LIMIT, self.total, piece.len());
-        if let Answer::Refused(_) = answer {
-            return refused(answer, self);
+        let fits = judge::fits(Stage::Adding, &self);
+        if let Err(refusal) = bounds::piece(fits, Self::LIMIT, self.total, piece.len()) {
+            return refused(refusal, self);
         }
-        let absorbed = admitted::absorb(self, piece);
-        let chain = absorbed.chain;
-        let block = chain.block;
-        let tail = absorbed.tail;
-        self.chain = block;
-        self.total = absorbed.total;
-        self.tail_len = absorbed.tail_len;
-        self.tail = tail;
+        let absorbed = Admitted { state: &self }.absorb(piece);
+        self.keep(absorbed);
         Step {
-            answer: Answer::Ok(0),
+            answer: Ok(0),
             state: self,
-            work: chain.work,
+            work: absorbed.chain.work,
         }
     }
 
@@ -159,17 +163,17 @@ impl Stream {
     pub fn turn(mut self, output: &mut [u8]) -> Step
         ensures { DidStep (turn_step self output.old) result output.new }
     {
-        let answer = bounds::room(judge::fits(1, self), Self::TAG_LEN, output.len());
-        if let Answer::Refused(_) = answer {
-            return refused(answer, self);
+        let fits = judge::fits(Stage::Adding, &self);
+        if let Err(refusal) = bounds::room(fits, Self::TAG_LEN, output.len()) {
+            return refused(refusal, self);
         }
-        let tag = admitted::tag_of_state(self);
+        let tag = Admitted { state: &self }.tag();
         let v = tag.block;
         octets::store(output, 0, v);
-        self.stage = 2;
+        self.stage = Stage::Writing as u8;
         self.v = v;
         Step {
-            answer: Answer::Ok(Self::TAG_LEN),
+            answer: Ok(Self::TAG_LEN),
             state: self,
             work: tag.work,
         }
@@ -180,23 +184,16 @@ impl Stream {
         ensures { DidStep (write_step self piece.now output.old) result output.new }
     {
         let n = piece.len();
-        let answer = bounds::piece_to(
-            judge::fits(2, self),
-            self.total,
-            self.written,
-            n,
-            0,
-            output.len(),
-        );
-        if let Answer::Refused(_) = answer {
-            return refused(answer, self);
+        let fits = judge::fits(Stage::Writing, &self);
+        if let Err(refusal) = bounds::piece_to(fits, self.total, self.written, n, 0, output.len()) {
+            return refused(refusal, self);
         }
-        let end = admitted::stream_at(self, self.written, piece, output, 0);
+        let end = Admitted { state: &self }.stream_at(self.written, piece, output, 0);
         let kept = end.block;
         self.kept = kept;
-        self.written = self.written + n;
+        self.written += n;
         Step {
-            answer: Answer::Ok(n),
+            answer: Ok(n),
             state: self,
             work: end.work,
         }
@@ -206,14 +203,14 @@ impl Stream {
     pub fn close(self) -> Step
         ensures { DidStep (close_step self) result [] }
     {
-        if judge::closes(self) {
-            return Step {
-                answer: Answer::Ok(0),
-                state: ended(),
-                work: 0,
-            };
+        if !judge::closes(&self) {
+            return refused(Refusal::State, self);
         }
-        refused(Answer::Refused(Refusal::State), self)
+        Step {
+            answer: Ok(0),
+            state: ended(),
+            work: 0,
+        }
     }
 
     // Feeds a piece of ciphertext: its plaintext, which nobody has approved yet, goes to output at offset total.
@@ -221,33 +218,21 @@ impl Stream {
         ensures { DidStep (feed_step self piece.now output.old) result output.new }
     {
         let n = piece.len();
-        let answer = bounds::piece_to(
-            judge::fits(3, self),
-            Self::LIMIT,
-            self.total,
-            n,
-            self.total,
-            output.len(),
-        );
-        if let Answer::Refused(_) = answer {
-            return refused(answer, self);
-        }
         let at = self.total;
-        let end = admitted::stream_at(self, at, piece, output, at);
+        let fits = judge::fits(Stage::Feeding, &self);
+        if let Err(refusal) = bounds::piece_to(fits, Self::LIMIT, at, n, at, output.len()) {
+            return refused(refusal, self);
+        }
+        let s = Admitted { state: &self };
+        let end = s.stream_at(at, piece, output, at);
+        let absorbed = s.absorb(&output[at..at + n]);
         let kept = end.block;
         self.kept = kept;
-        let absorbed = admitted::absorb(self, &output[at..at + n]);
-        let chain = absorbed.chain;
-        let block = chain.block;
-        let tail = absorbed.tail;
-        self.chain = block;
-        self.total = absorbed.total;
-        self.tail_len = absorbed.tail_len;
-        self.tail = tail;
+        self.keep(absorbed);
         Step {
-            answer: Answer::Ok(n),
+            answer: Ok(n),
             state: self,
-            work: end.work + chain.work,
+            work: end.work + absorbed.chain.work,
         }
     }
 
@@ -255,24 +240,22 @@ impl Stream {
     pub fn finish(self, output: &mut [u8]) -> Step
         ensures { DidStep (finish_step self output.old) result output.new }
     {
-        let answer = bounds::room(judge::fits(3, self), self.total, output.len());
-        if let Answer::Refused(_) = answer {
-            return refused(answer, self);
-        }
         let total = self.total;
-        let v = self.v;
-        let tag = admitted::tag_of_state(self);
-        let t = tag.block;
-        if octets::same_block(t, v) {
+        let fits = judge::fits(Stage::Feeding, &self);
+        if let Err(refusal) = bounds::room(fits, total, output.len()) {
+            return refused(refusal, self);
+        }
+        let tag = Admitted { state: &self }.tag();
+        if octets::same_block(tag.block, self.v) {
             return Step {
-                answer: Answer::Ok(total),
+                answer: Ok(total),
                 state: ended(),
                 work: tag.work,
             };
         }
         octets::zero_at(output, 0, total);
         Step {
-            answer: Answer::Refused(Refusal::Forged),
+            answer: Err(Refusal::Forged),
             state: ended(),
             work: tag.work,
         }

@@ -8,7 +8,7 @@ use native.Mathlib.Omega.{arith}
 use lib.ListN.{length, take, drop, take-append-drop}
 use lib.Seq.{drop-append-add, length-take-le}
 use Rattle.octets.specs.Octets.{put, part}
-use Rattle.octets.proofs.Strings.{part_rest}
+use Rattle.std.proofs.lemmas.List.{take_rest}
 use Rattle.cmac.specs.Cmac.{chain}
 use Rattle.cmac.proofs.Laws.{chain_front, chain-add}
 use Rattle.s2v.specs.S2v.{tail_length}
@@ -17,12 +17,13 @@ use Rattle.tail.specs.Tail.{passed_blocks, leaving_blocks}
 
 module _ (E : List ℕ → List ℕ) (c : List ℕ) where
   -- n blocks that were copied to the front of a string are chained as where they stood
-  pub chain_copied : (l t : List ℕ) (n : ℕ) → 16 * n ≤ length t → chain E c (put l 0 (part t 0 (16 * n))) n ≡ chain E c t n
+  pub chain_copied : (l t : List ℕ) (n : ℕ) {s : List ℕ} → s ≡ put l 0 (part t 0 (16 * n)) → 16 * n ≤ length t → chain E c s n ≡ chain E c t n
   unfolding put
-  chain_copied l t n h =
+  chain_copied l t n e h =
       let front : List ℕ = take (16 * n) t in
       let long : 16 * n ≤ length front = omega (arith, length-take-le (16 * n) t h) in
-      chain_front E c front (drop (0 + length front) l) n long
+      ap (λ (s : List ℕ). chain E c s n) e
+      ∙ chain_front E c front (drop (0 + length front) l) n long
       ∙ sym (chain_front E c front (drop (16 * n) t) n long)
       ∙ ap (λ (s : List ℕ). chain E c s n) (take-append-drop (16 * n) t)
 
@@ -34,7 +35,7 @@ module _ (E : List ℕ → List ℕ) (c : List ℕ) where
       let place : length a + (32 - length a) ≡ 32 = omega arith in
       let rest : drop 32 (a ++ b) ≡ drop (32 - length a) b = ap (λ (k : ℕ). drop k (a ++ b)) (sym place) ∙ drop-append-add a b (32 - length a) in
       ap (λ (l : List ℕ). chain E l (take (length b - (32 - length a)) (drop (32 - length a) b)) (n - 2)) e
-      ∙ ap (λ (l : List ℕ). chain E (chain E c (a ++ b) 2) l (n - 2)) (part_rest b (32 - length a) ∙ sym rest)
+      ∙ ap (λ (l : List ℕ). chain E (chain E c (a ++ b) 2) l (n - 2)) (take_rest b (32 - length a) ∙ sym rest)
       ∙ sym (chain-add E c (a ++ b) 2 (n - 2))
       ∙ ap (chain E c (a ++ b)) count
 

@@ -1,18 +1,17 @@
 -- Laws of keys and of the whole calls' definitions.
 -- Assumes nothing.
 use mathlib.Core.Path.{◌≡◌, refl, ap, ap₂, sym, subst, ◌∙◌}
-use mathlib.Core.Bool.{Bool, true, false, not, cond, ◌||◌}
+use mathlib.Core.Bool.{Bool, true, false, not, cond}
 use mathlib.Core.List.{List, ◌++◌}
 use Prim.Native.Nat.{ℕ, ◌+◌, ◌-◌, ◌/◌, ◌≤◌}
-use native.Mathlib.Decide.{ℕ_discrete}
 use native.Mathlib.Nat.{zero-add}
 use native.Mathlib.Omega.{arith}
-use lib.Dec.{eqb, ltb}
+use lib.Dec.{eqb}
 use lib.ListN.{length, take, drop, replicate, length-drop, length-replicate}
 use lib.Seq.{length-take-le, drop_at, drop-drop}
-use borrow.Author.Tests.{eqb-true, ne_eqb, ltb-false, not-false}
 use Rattle.octets.specs.Octets.{put}
 use Rattle.octets.proofs.Strings.{take_put, put-put}
+use Rattle.std.proofs.lemmas.List.{take_rest}
 use Rattle.aes.specs.Aes.{is_width, aes}
 use Rattle.aes.specs.Cipher.{cipher}
 use Rattle.aes.specs.KeyExpansion.{round_keys}
@@ -20,12 +19,13 @@ use Rattle.header.specs.Header.{total, strings}
 use Rattle.s2v.specs.S2v.{s2v, s2v_work}
 use Rattle.keystream.specs.KeyStream.{xor_stream}
 use Rattle.keystream.proofs.Laws.{length-xor_stream}
-use Rattle.answers.specs.declared.Answer.{Answer}
-use Rattle.answers.specs.declared.Answer.TheVariants.{Ok}
-use Rattle.answers.specs.Answer.{Row, first, forged_or, Judges, outcome_of, success, refusal, forged}
-use Rattle.answers.proofs.Laws.{IsRefused, was_due, first_none, none_where, not_due, settle_complete, settle_refused, settle_number, settle_forged, settle_other, settle_verdict, by_complete, by_refusal, by_test, passed_at_0, passed_at_8, unpassed, settle_rows, settle_test}
+use Rattle.std.specs.Prelude.{Ok, Err}
+use Rattle.std.proofs.lemmas.Bool.Decides.{nat_tests}
+use Rattle.answers.specs.declared.Refusal.{Refusal}
+use Rattle.answers.specs.Answer.{Row, first, forged_or, number_of, outcome_of, success, refusal, forged}
+use Rattle.answers.proofs.Laws.{was_due, none_where, settle_complete, settle_refused, settle_number, settle_forged, settle_other, settle_verdict, by_complete, by_refusal, by_test, passed_at_0, passed_at_8, unpassed, settle_rows, settle_test}
 use Rattle.whole.specs.declared.Report.{Report}
-use Rattle.whole.specs.Calls.{is_key_length, limit, scratch_need, header_rows, seal_rows, open_rows, opening_rows, Usable, CallResult, refused_call, DidCall, seal_number, sealed_call, seal_call, open_number, opened_call, forged_call, open_call}
+use Rattle.whole.specs.Calls.{is_key_length, limit, scratch_need, header_rows, opening_rows, CallResult, refused_call, DidCall, seal_number, sealed_call, seal_call, open_number, opened_call, forged_call, open_call}
 use Rattle.whole.specs.Siv.{tag_of, tag_of_work, streamed, sealed, sealed_work, opened, genuine, genuine_work}
 
 -- ---- keys
@@ -38,15 +38,10 @@ pub record KeyHalves (n : ℕ) : Type 0 where
 
 pub halves : (n : ℕ) → is_key_length n ≡ true → KeyHalves n
 unfolding is_key_length is_width
-halves n e = go (eqb n 32) (eqb n 48) (eqb-true n 32) (eqb-true n 48) (eqb-true n 64) e
-  where
-    at : (m : ℕ) → KeyHalves m → n ≡ m → KeyHalves n
-    at m k p = subst KeyHalves (sym p) k
+halves n e = grind (arith, nat_tests)
 
-    go : (a b : Bool) → (a ≡ true → n ≡ 32) → (b ≡ true → n ≡ 48) → (eqb n 64 ≡ true → n ≡ 64) → (a || b || eqb n 64) ≡ true → KeyHalves n
-    go true b f g h t = at 32 (record { half = refl; even = refl; most = omega arith }) (f refl)
-    go false true f g h t = at 48 (record { half = refl; even = refl; most = omega arith }) (g refl)
-    go false false f g h t = at 64 (record { half = refl; even = refl; most = omega arith }) (h t)
+pub half_most : (n : ℕ) → is_key_length n ≡ true → n / 2 ≤ 32
+half_most n e = (halves n e).most
 
 -- ---- keys under the cipher
 
@@ -63,6 +58,13 @@ module _ (key : List ℕ) (e : is_key_length (length key) ≡ true) where
 
   long_ctr : length key / 2 ≡ length (drop (length key / 2) key)
   long_ctr = let h : KeyHalves (length key) = halves (length key) e in simp length-drop (omega arith)
+
+  -- each half is as long as an AES key
+  pub mac_width : is_width (length (take (length key / 2) key)) ≡ true
+  mac_width = ap is_width (sym long_mac) ∙ (halves (length key) e).half
+
+  pub ctr_width : is_width (length (take (length key - length key / 2) (drop (length key / 2) key))) ≡ true
+  ctr_width = ap (λ (l : List ℕ). is_width (length l)) (take_rest key (length key / 2)) ∙ ap is_width (sym long_ctr) ∙ (halves (length key) e).half
 
   -- the tag is by the round keys of the first half
   pub tag_by_half : {keys : List ℕ} (ss : List (List ℕ)) (p : List ℕ) → keys ≡ round_keys (take (length key / 2) key) → s2v (cipher (length key / 2) keys) ss p ≡ tag_of key ss p
@@ -94,16 +96,7 @@ sealed_written key ss p out {v} t long room w e =
 -- what the refusals of key and header list leave
 pub header_admits : (key_length : ℕ) (lens : List ℕ) (headerLength : ℕ) → first (header_rows key_length lens headerLength) ≡ 0
     → (is_key_length key_length ≡ true) × (total lens ≡ headerLength) × (length lens ≤ 126)
-header_admits key_length lens headerLength e =
-    let a = not_due (not (is_key_length key_length)) 0 _ e in
-    let b = not_due (ltb 126 (length lens)) 1 _ a.1 in
-    let d = not_due (not (eqb (total lens) headerLength)) 2 0 b.1 in
-    (not-false (is_key_length key_length) a.0, eqb-true (total lens) headerLength (not-false (eqb (total lens) headerLength) d.0), ltb-false 126 (length lens) b.0)
-
-pub header_usable : (key bytes lens : List ℕ) → first (header_rows (length key) lens (length bytes)) ≡ 0 → Usable key bytes lens
-header_usable key bytes lens e =
-    let a = header_admits (length key) lens (length bytes) e in
-    (a.0, (omega (arith, a.1), a.2))
+header_admits key_length lens headerLength e = grind (arith, nat_tests)
 
 -- what sealing's refusals leave
 pub record SealAdmits (key bytes lens input output scratch : List ℕ) : Type 0 where
@@ -117,20 +110,7 @@ pub record SealAdmits (key bytes lens input output scratch : List ℕ) : Type 0 
 module _ (key bytes lens input output scratch : List ℕ) where
   pub seal_admits : seal_number key bytes lens input output scratch ≡ 0 → SealAdmits key bytes lens input output scratch
   unfolding seal_number
-  seal_admits e =
-      let none = first_none (header_rows (length key) lens (length bytes)) (seal_rows (length input) (length output) (length scratch)) refl e in
-      let a = header_admits (length key) lens (length bytes) none.0 in
-      let f = not_due (ltb limit (length input)) 3 _ none.1 in
-      let g = not_due (ltb (length output) (length input + 16)) 5 _ f.1 in
-      let h = not_due (ltb (length scratch) (scratch_need (length input))) 6 0 g.1 in
-      record {
-        keyed = a.0;
-        sums = a.1;
-        count_fits = a.2;
-        limited = ltb-false limit (length input) f.0;
-        output_fits = ltb-false (length output) (length input + 16) g.0;
-        scratch_fits = ltb-false (length scratch) (scratch_need (length input)) h.0;
-      }
+  seal_admits e = grind (arith, nat_tests)
 
   -- the call by its number
   pub seal_untouched : (seal_number key bytes lens input output scratch ≡ 0 → ⊥)
@@ -149,17 +129,13 @@ module _ (key bytes lens input output scratch : List ℕ) where
   -- no length is above the longest sealed string's
   pub seal_count : (seal_call key bytes lens input output scratch).outcome.count ≤ limit + 16
   unfolding seal_call
-  seal_count = go (ℕ_discrete (seal_number key bytes lens input output scratch) 0)
-    where
-      go : Dec (seal_number key bytes lens input output scratch ≡ 0) → (seal_call key bytes lens input output scratch).outcome.count ≤ limit + 16
-      go (yes e) = simp e (omega (arith, (seal_admits e).limited))
-      go (no e) = simp (ne_eqb _ 0 e) (omega arith)
+  seal_count = grind (arith, nat_tests, seal_admits)
 
-  pub seal_refused : (answer : Answer) → IsRefused answer → outcome_of answer 0 ≡ refusal (seal_number key bytes lens input output scratch)
-      → DidCall (seal_call key bytes lens input output scratch) (record { answer = answer; work = 0 }) output scratch
+  pub seal_refused : (r : Refusal) → number_of r ≡ seal_number key bytes lens input output scratch
+      → DidCall (seal_call key bytes lens input output scratch) (record { answer = Err r; work = 0 }) output scratch
   unfolding seal_call
-  seal_refused answer k e =
-      by_refusal _ _ (λ o. record { outcome = o; output = output; scratch = scratch }) (λ (r : CallResult). DidCall r (record { answer = answer; work = 0 }) output scratch) answer k e
+  seal_refused r e =
+      by_refusal _ _ (λ o. record { outcome = o; output = output; scratch = scratch }) (λ (d : CallResult). DidCall d (record { answer = Err r; work = 0 }) output scratch) r e
       (record { outcome = refl; output = refl; scratch = refl })
 
   pub seal_done : (w : ℕ) (output' scratch' : List ℕ) → seal_number key bytes lens input output scratch ≡ 0 → w ≡ sealed_work key (strings bytes lens) input
@@ -235,22 +211,7 @@ module _ (key bytes lens input output scratch : List ℕ) where
   open_judged = first rows
 
   pub open_admits : open_judged ≡ 0 → OpenAdmits key bytes lens input output scratch
-  open_admits e =
-      let none = first_none (header_rows (length key) lens (length bytes)) (open_rows (length input) (length output) (length scratch)) refl e in
-      let a = header_admits (length key) lens (length bytes) none.0 in
-      let f = not_due (ltb (length input) 16) 4 _ none.1 in
-      let g = not_due (ltb (limit + 16) (length input)) 3 _ f.1 in
-      let h = not_due (ltb (length output) (length input - 16)) 5 _ g.1 in
-      let i = not_due (ltb (length scratch) (scratch_need (length input - 16))) 6 0 h.1 in
-      record {
-        keyed = a.0;
-        sums = a.1;
-        count_fits = a.2;
-        tagged = ltb-false (length input) 16 f.0;
-        limited = ltb-false (limit + 16) (length input) g.0;
-        output_fits = ltb-false (length output) (length input - 16) h.0;
-        scratch_fits = ltb-false (length scratch) (scratch_need (length input - 16)) i.0;
-      }
+  open_admits e = grind (arith, nat_tests)
 
   abbrev test : Bool
   test = genuine key (strings bytes lens) input
@@ -310,10 +271,10 @@ module _ (key bytes lens input output scratch : List ℕ) where
   unfolding open_call open_number
   open_due z = settle_rows rows test complete forgery untouched refl z
 
-  pub open_refused : (answer : Answer) → IsRefused answer → Judges rows answer → DidCall call (record { answer = answer; work = 0 }) output scratch
-  open_refused answer k e =
-      subst (λ (r : CallResult). DidCall r (record { answer = answer; work = 0 }) output scratch) (sym (open_due (was_due answer open_judged k e)))
-      (record { outcome = e; output = refl; scratch = refl })
+  pub open_refused : (r : Refusal) → number_of r ≡ open_judged → DidCall call (record { answer = Err r; work = 0 }) output scratch
+  open_refused r e =
+      subst (λ (d : CallResult). DidCall d (record { answer = Err r; work = 0 }) output scratch) (sym (open_due (was_due r open_judged e)))
+      (record { outcome = ap refusal e; output = refl; scratch = refl })
 
   -- past the judgement the string is genuine or forged, and the work is that of telling
   pub open_told : (g : Bool) → test ≡ g → open_judged ≡ 0 → call ≡ cond g complete forgery
@@ -321,11 +282,7 @@ module _ (key bytes lens input output scratch : List ℕ) where
   open_told g e judged = settle_test rows test complete forgery untouched refl g e judged
 
   pub open_work : open_judged ≡ 0 → call.outcome.work ≡ genuine_work key (strings bytes lens) input
-  open_work judged = go test refl
-    where
-      go : (g : Bool) → test ≡ g → call.outcome.work ≡ genuine_work key (strings bytes lens) input
-      go true e = ap (λ (r : CallResult). r.outcome.work) (open_told true e judged)
-      go false e = ap (λ (r : CallResult). r.outcome.work) (open_told false e judged)
+  open_work judged = grind (arith, nat_tests, open_told test refl judged)
 
   -- past the judgement the number is 0 where the string is genuine
   pub open_number_lem : open_judged ≡ 0 → eqb call.outcome.number 0 ≡ genuine key (strings bytes lens) input
@@ -333,15 +290,7 @@ module _ (key bytes lens input output scratch : List ℕ) where
 
   -- no length is above the longest plaintext's
   pub open_count : call.outcome.count ≤ limit
-  open_count = go (ℕ_discrete number 0) (ℕ_discrete number 8)
-    where
-      at : {r : CallResult} → call ≡ r → r.outcome.count ≤ limit → call.outcome.count ≤ limit
-      at e h = subst (λ (r : CallResult). r.outcome.count ≤ limit) (sym e) h
-
-      go : Dec (number ≡ 0) → Dec (number ≡ 8) → call.outcome.count ≤ limit
-      go (yes e) d = at (open_complete e) (omega (arith, (open_admits (open_passed e)).limited))
-      go (no z) (yes e) = at (open_forgery e) (omega arith)
-      go (no z) (no e) = at (open_untouched z e) (omega arith)
+  open_count = grind (arith, nat_tests, open_admits, open_passed, open_complete, open_forgery, open_untouched)
 
   -- past the judgement what was read of a genuine string, or zeros, are in the output
   pub open_released : (g : Bool) → genuine key (strings bytes lens) input ≡ g → open_judged ≡ 0 → (report : Report) (read output' scratch' : List ℕ)

@@ -2,7 +2,7 @@
 -- Assumes nothing.
 use mathlib.Core.Path.{◌≡◌, ap, ◌∙◌}
 use mathlib.Core.List.{List, [], ◌∷◌}
-use Prim.Native.Nat.{ℕ, ◌+◌, ◌-◌, ◌≤◌}
+use Prim.Native.Nat.{ℕ, ◌+◌, ◌-◌, ◌*◌, ◌^◌, ◌≤◌, ◌<◌}
 use native.Mathlib.Omega.{arith}
 use lib.ListN.{length, take, drop, length-drop}
 use lib.Seq.{length-take-le}
@@ -10,7 +10,8 @@ use Rattle.aes.specs.Aes.{aes}
 use Rattle.aes.proofs.Widths.{length-cipher}
 use Rattle.cmac.specs.Cmac.{zeros, subkeys, zero_cipher, cmac_work}
 use Rattle.cmac.proofs.Laws.{cmac_work_lem}
-use Rattle.header.specs.Header.{total, strings}
+use Rattle.header.specs.Header.{total, strings, Walkable}
+use Rattle.header.proofs.Laws.{blocks_most}
 use Rattle.header.specs.Blocks.{sixteenths, blocks_of, blocks_of_all}
 use Rattle.s2v.specs.S2v.{absorb_work, header_result, header_work, tag_from_work, s2v_work}
 use Rattle.s2v.proofs.Laws.{tag_work, length-header_result}
@@ -56,3 +57,10 @@ pub genuine_lengths : (key bytes lens y : List ℕ) → total lens ≤ length by
 unfolding genuine_work
 genuine_lengths key bytes lens y h =
     omega (arith, tag_of_lengths key bytes lens (opened key y) h, length-opened key y, streamed_lengths (drop 16 y), length-drop 16 y)
+
+-- it is far below the largest number, since no slice has 2 ^ 64 bytes
+abbrev pub work_most : ℕ
+work_most = 3 * 2 ^ 60 + 200
+
+pub genuine_most : (key bytes lens y : List ℕ) {w : ℕ} → w ≡ genuine_work key (strings bytes lens) y → Walkable bytes lens → length bytes < 2 ^ 64 → length y < 2 ^ 64 → w ≤ work_most
+genuine_most key bytes lens y e h b l = omega (arith, e ∙ genuine_lengths key bytes lens y h.0, blocks_most lens, h.1)

@@ -1,9 +1,9 @@
 -- Whole sealing and opening on every input: number, length,
 -- work and the last contents of each lent buffer, by rules 8.1 to 8.5 and 15.2.
 -- Assumes nothing.
-use Rattle.std.specs.Prelude.{◌≡◌, Bool, true, not, ◌||◌, List, [], ◌∷◌, ◌++◌, ℕ, ◌+◌, ◌-◌, max, ltb, eqb, length, replicate}
+use Rattle.std.specs.Prelude.{◌≡◌, Bool, not, ◌||◌, List, [], ◌∷◌, ◌++◌, ℕ, ◌+◌, ◌-◌, max, ltb, eqb, length, replicate}
 use Rattle.octets.specs.Octets.{put, Lent, LentMut}
-use Rattle.header.specs.Header.{total, strings, Walkable}
+use Rattle.header.specs.Header.{total, strings}
 use Rattle.answers.specs.Answer.{Outcome, success, refusal, forged, outcome_of, Row, row, first, settle, forged_or}
 use Rattle.whole.specs.declared.Report.{Report}
 use Rattle.whole.specs.Siv.{sealed, sealed_work, opened, genuine, genuine_work}
@@ -41,10 +41,6 @@ open_rows y output scratch =
 -- the refusals of opening that lengths alone tell
 abbrev pub opening_rows : ℕ → List ℕ → ℕ → ℕ → ℕ → ℕ → List Row
 opening_rows key_length lens headerLength y output scratch = header_rows key_length lens headerLength ++ open_rows y output scratch
-
--- a key and a header list that can be used: what the refusals leave is more
-abbrev pub Usable : List ℕ → List ℕ → List ℕ → Type 0
-Usable key bytes lens = (is_key_length (length key) ≡ true) × Walkable bytes lens
 
 -- everything that a whole call does: number, length and work, and the last contents of output and scratch
 pub record CallResult : Type 0 where

@@ -1,7 +1,8 @@
 -- Whole opening under a ring of keys on every input: number, length, slot,
 -- work and the last contents of each lent buffer, by rules 12.1 to 12.4 and 15.4.
 -- Assumes nothing.
-use Rattle.std.specs.Prelude.{◌≡◌, Bool, true, not, cond, ◌||◌, List, [], ◌∷◌, ℕ, zero, suc, ◌+◌, ◌-◌, ◌*◌, ◌/◌, ◌≤◌, ◌<◌, ltb, eqb, length, drop}
+use Rattle.std.specs.Prelude.{◌≡◌, Bool, true, not, cond, ◌||◌, List, [], ◌∷◌, ℕ, zero, suc, ◌+◌, ◌-◌, ◌*◌, ◌/◌, ◌≤◌, eqb, length, drop, None, Some}
+use Rattle.std.specs.Option.{is_some, unwrap_or}
 use Rattle.octets.specs.Octets.{Lent, LentMut, Writes, part}
 use Rattle.answers.specs.Answer.{Row, row, first, settle}
 use Rattle.whole.specs.declared.Found.{Found}
@@ -21,10 +22,10 @@ abbrev pub slot_key : ℕ → List ℕ → ℕ → List ℕ
 slot_key key_length ring i = part ring (i * key_length) key_length
 
 -- tries the n slots from i on, after those before them took a sum of work:
--- ends at the first that passes a test, or behind them, with the work of all that were tried
+-- finds the first that passes a test, if any does, with the work of all that were tried
 abbrev pub try_slots : (ℕ → Bool) → (ℕ → ℕ) → ℕ → ℕ → ℕ → Found
-try_slots test work i sum zero = record { slot = i; work = sum }
-try_slots test work i sum (suc n) = cond (test i) (record { slot = i; work = sum + work i }) (try_slots test work (suc i) (sum + work i) n)
+try_slots test work i sum zero = record { slot = None; work = sum }
+try_slots test work i sum (suc n) = cond (test i) (record { slot = Some i; work = sum + work i }) (try_slots test work (suc i) (sum + work i) n)
 
 -- the sum of a work over the slots that are tried, of the n from i on: up to the first that passes the test, and it too
 abbrev pub tried_work : (ℕ → Bool) → (ℕ → ℕ) → ℕ → ℕ → ℕ
@@ -37,16 +38,16 @@ HasSlot key_length ring i = (is_key_length key_length ≡ true) × (i * key_leng
 abbrev pub HasSlots : ℕ → List ℕ → ℕ → Type 0
 HasSlots key_length ring slots = (is_key_length key_length ≡ true) × (slots * key_length ≡ length ring) × (slots ≤ 4)
 
+-- the slot that is given: the one that passed, or slot 0
+abbrev pub given_slot : Found → ℕ
+given_slot found = unwrap_or found.slot 0
+
 -- what trying the slots of a ring on a scratch promises: where a key opened,
 -- the scratch has its plaintext; past a plaintext's length it is as it came
 pub record TriesSlots (key_length slots : ℕ) (ring : List ℕ) (ss : List (List ℕ)) (y : List ℕ) (scratch : LentMut) (end : Found) : Type 0 where
   pub found : end ≡ try_slots (λ i. genuine (slot_key key_length ring i) ss y) (λ i. genuine_work (slot_key key_length ring i) ss y) 0 0 slots
-  pub text : end.slot < slots → Writes scratch 0 (opened (slot_key key_length ring end.slot) y)
+  pub text : is_some end.slot ≡ true → Writes scratch 0 (opened (slot_key key_length ring (given_slot end)) y)
   pub rest : drop (length y - 16) scratch.exit.now ≡ drop (length y - 16) scratch.entry.now
-
--- the slot that is given where n were tried: the one that passed, or slot 0
-abbrev pub given_slot : Found → ℕ → ℕ
-given_slot found n = cond (ltb found.slot n) found.slot 0
 
 -- the refusals that judge the stated key length and the ring
 abbrev pub ring_rows : ℕ → ℕ → List Row
@@ -94,7 +95,7 @@ module _ (key_length : ℕ) (ring bytes lens input output scratch : List ℕ) wh
   open_ring =
       let count = slot_count key_length (length ring) in
       let found = try_slots opens_at work_at 0 0 count in
-      let slot = given_slot found count in
+      let slot = given_slot found in
       settle (first (ring_rows key_length (length ring))) (record { slot = slot; call = open_slot_with slot found.work }) (λ n. refused_ring n output scratch)
 
 -- what a ring's call promises: with what the lent slices held at entry,

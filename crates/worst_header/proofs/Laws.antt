@@ -1,21 +1,17 @@
 -- Laws of the worst header list: no list of such lengths has more blocks than `peak`; one that has as many is worst.
 -- Assumes nothing.
 use mathlib.Core.Path.{◌≡◌, refl, ap, ap₂, sym, subst, ◌∙◌}
-use mathlib.Core.Bool.{Bool, true, false, not, false≢true, cond, ◌||◌, and-eq-true_iff}
+use mathlib.Core.Bool.{true, false}
 use mathlib.Core.List.{List, [], ◌∷◌, ◌++◌}
 use Prim.Native.Nat.{ℕ, zero, suc, ◌+◌, ◌-◌, ◌*◌, ◌/◌, ◌≤◌, max}
-use native.Mathlib.Decide.{ℕ_discrete}
 use native.Mathlib.Nat.{suc-mul, sub-zero, zero-sub, suc-sub-suc}
 use native.Mathlib.Omega.{arith}
-use lib.Dec.{eqb, ltb}
 use lib.ListN.{length, take, drop, set, replicate}
-use lib.Seq.{take-append_seam, drop-append_seam}
-use borrow.Author.Tests.{eqb-true, le-ltb, ltb-false, not-true, not-false}
-use Rattle.octets.specs.Octets.{put}
+use lib.Seq.{length-take-le, take-append_seam, drop-append_seam}
+use Rattle.std.proofs.lemmas.Bool.Decides.{nat_tests}
 use Rattle.header.specs.Header.{total}
 use Rattle.header.specs.Blocks.{blocks_of, blocks_of_all}
 use Rattle.answers.specs.Answer.{Outcome, refusal, first}
-use Rattle.answers.proofs.Laws.{not_due}
 use Rattle.worst_header.specs.WorstHeader.{most_bytes, is_plan, plan_rows, AllAtLeast, Composes, IsWorst, GivesWorst}
 
 -- ---- which figures are planned for
@@ -28,56 +24,20 @@ pub record Planned (h k least : ℕ) : Type 0 where
   pub bounded : h ≤ most_bytes
   pub enough : k * least ≤ h
 
--- a least length is 0 or 1 exactly where it is at most 1
-least_small : (least : ℕ) → (eqb least 0 || eqb least 1) ≡ true → least ≤ 1
-least_small least e = go (eqb least 0) (eqb least 1) (eqb-true least 0) (eqb-true least 1) e
-  where
-    go : (a b : Bool) → (a ≡ true → least ≡ 0) → (b ≡ true → least ≡ 1) → (a || b) ≡ true → least ≤ 1
-    go true b f g t = omega (arith, f refl)
-    go false true f g t = omega (arith, g refl)
-    go false false f g t = absurd (false≢true t)
-
-small_least : (least : ℕ) → least ≤ 1 → (eqb least 0 || eqb least 1) ≡ true
-small_least zero h = refl
-small_least (suc zero) h = refl
-small_least (suc (suc n)) h = absurd (omega arith)
-
 pub planned : (h k least : ℕ) → is_plan h k least ≡ true → Planned h k least
 unfolding is_plan
-planned h k least e =
-    let enough = (and-eq-true_iff _ (not (ltb h (k * least)))).0 e in
-    let bounded = (and-eq-true_iff _ (not (ltb most_bytes h))).0 enough.0 in
-    let small = (and-eq-true_iff _ (eqb least 0 || eqb least 1)).0 bounded.0 in
-    let count_fits = (and-eq-true_iff (not (ltb k 1)) (not (ltb 126 k))).0 small.0 in
-    record {
-      some = ltb-false k 1 (not-true (ltb k 1) count_fits.0);
-      count_fits = ltb-false 126 k (not-true (ltb 126 k) count_fits.1);
-      small = least_small least small.1;
-      bounded = ltb-false most_bytes h (not-true (ltb most_bytes h) bounded.1);
-      enough = ltb-false h (k * least) (not-true (ltb h (k * least)) enough.1);
-    }
-
-pub plan_by : (h k least : ℕ) → Planned h k least → is_plan h k least ≡ true
-unfolding is_plan
-plan_by h k least p = simp (le-ltb k 1 p.some, le-ltb 126 k p.count_fits, small_least least p.small, le-ltb most_bytes h p.bounded, le-ltb h (k * least) p.enough)
-
-pub no_plan : (h k least : ℕ) → (Planned h k least → ⊥) → is_plan h k least ≡ false
-no_plan h k least n = go (is_plan h k least) (planned h k least)
-  where
-    go : (b : Bool) → (b ≡ true → Planned h k least) → b ≡ false
-    go true f = absurd (n (f refl))
-    go false f = refl
+planned h k least e = grind (arith, nat_tests)
 
 pub planned_row : (h k least : ℕ) → first (plan_rows h k least) ≡ 0 → Planned h k least
-planned_row h k least e = planned h k least (not-false (is_plan h k least) (not_due (not (is_plan h k least)) 11 0 e).0)
+planned_row h k least e = grind (arith, nat_tests, planned h k least)
 
 -- the two answers
 module _ (h k least : ℕ) {places : List ℕ} {blocks : ℕ} where
   pub refuses : is_plan h k least ≡ false → places ≡ replicate 126 0 → blocks ≡ 0 → GivesWorst h k least (refusal 12) places blocks
-  refuses e p b = record { answer = simp e; done = λ z. let n : first (plan_rows h k least) ≡ 12 = simp e in absurd (omega (arith, n, z)); refused = λ n. (p, b) }
+  refuses e p b = grind (arith, nat_tests)
 
   pub gives : is_plan h k least ≡ true → IsWorst h k least places blocks → GivesWorst h k least (refusal 0) places blocks
-  gives e d = record { answer = simp e; done = λ z. d; refused = λ n. absurd (n (simp e)) }
+  gives e d = grind (arith, nat_tests)
 
 -- a product, without its last summand
 pub times_less : (k n : ℕ) → 1 ≤ k → k * n ≡ (k - 1) * n + n
@@ -199,27 +159,18 @@ drop-replicate zero m a = rw sub-zero refl
 drop-replicate (suc n) zero a = rw zero-sub refl
 drop-replicate (suc n) (suc m) a = rw suc-sub-suc (drop-replicate n m a)
 
--- zeros, with the others' length at 1 to k - 1 and the first at 0
-pub laid : (first k others : ℕ) {lens : List ℕ} → 1 ≤ k → lens ≡ put (replicate 126 0) 1 (replicate (k - 1) others) → set lens 0 first ≡ (first ∷ replicate (k - 1) others) ++ replicate (126 - k) 0
-unfolding put
-laid first k others some e =
-    let past : 126 - (1 + length (replicate (k - 1) others)) ≡ 126 - k = omega (arith, (alike (k - 1) others).count) in
-    ap (λ (l : List ℕ). set l 0 first) e
-    ∙ ap (λ (l : List ℕ). first ∷ (replicate (k - 1) others ++ l)) (drop-replicate (1 + length (replicate (k - 1) others)) 126 0 ∙ ap (λ (n : ℕ). replicate n 0) past)
+-- zeros, with the others' length at the first k and then the first at 0
+pub laid : (first k others : ℕ) {front : List ℕ} → 1 ≤ k → k ≤ 126 → front ≡ replicate (length (take k (replicate {A = ℕ} 126 0))) others
+    → set (front ++ drop k (replicate 126 0)) 0 first ≡ (first ∷ replicate (k - 1) others) ++ replicate (126 - k) 0
+laid first k others some few e =
+    let count : length (take k (replicate {A = ℕ} 126 0)) ≡ suc (k - 1) = length-take-le k (replicate {A = ℕ} 126 0) few ∙ omega arith in
+    ap₂ (λ (l r : List ℕ). set (l ++ r) 0 first) (e ∙ ap (λ (n : ℕ). replicate n others) count) (drop-replicate k 126 0)
 
 -- ---- how large an answer can be
 
 module _ (h k least : ℕ) where
   pub number_small : first (plan_rows h k least) ≤ 12
-  number_small = go (is_plan h k least)
-    where
-      go : (b : Bool) → cond (not b) 12 0 ≤ 12
-      go true = omega arith
-      go false = omega arith
+  number_small = grind (arith, nat_tests)
 
   pub blocks_small : {outcome : Outcome} {places : List ℕ} {blocks : ℕ} → GivesWorst h k least outcome places blocks → blocks ≤ 65661
-  blocks_small {blocks = blocks} g = go (ℕ_discrete (first (plan_rows h k least)) 0)
-    where
-      go : Dec (first (plan_rows h k least) ≡ 0) → blocks ≤ 65661
-      go (yes e) = omega (arith, planned_row h k least e, blocks_peak h k least (planned_row h k least e) (g.done e))
-      go (no n) = omega (arith, (g.refused n).1)
+  blocks_small g = grind (arith, nat_tests, planned_row h k least, blocks_peak h k least, g.done, g.refused)

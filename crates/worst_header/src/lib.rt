@@ -1,8 +1,7 @@
 // The worst header list: how many blocks a record's header strings can have at the most, and lengths that have them.
 #![tactic(auto)]
 
-ghost use Rattle.std.specs.Prelude.{◌≡◌, ◌∷◌, ◌++◌, ◌+◌, ◌-◌, ◌≤◌, length, replicate};
-ghost use Rattle.octets.specs.Octets.{put};
+ghost use Rattle.std.specs.Prelude.{◌≡◌, ◌∷◌, ◌++◌, ◌+◌, ◌-◌, ◌≤◌, replicate};
 ghost use Rattle.answers.specs.Answer.{outcome_of};
 ghost use Rattle.worst_header.specs.WorstHeader.{is_plan, GivesWorst};
 
@@ -13,6 +12,7 @@ pub const MOST_BYTES: usize = 1048576;
 
 // An answer, a list of lengths, those past its count zero, and how many blocks its strings have.
 // After a refusal all lengths and the blocks are zero.
+// A record, and no Result: `GivesWorst` promises these zeros.
 #[derive(Clone, Copy)]
 pub struct HeaderList {
     pub answer: Answer,
@@ -21,37 +21,15 @@ pub struct HeaderList {
 }
 
 // Whether a list is planned for these figures. Count and least are judged first, so that their product is small.
+#[tactic(auto, unfolding(crate::specs::WorstHeader::is_plan))]
 fn is_plan(header_len: usize, count: usize, least: usize) -> bool
     ensures { result ≡ is_plan header_len count least }
 {
-    if count < 1 {
-        return false;
-    }
-    if header::too_many(count) {
-        return false;
-    }
-    if 1 < least {
-        return false;
-    }
-    if MOST_BYTES < header_len {
-        return false;
-    }
-    if header_len < count * least {
-        return false;
-    }
-    true
-}
-
-// Writes a length n times from place at on.
-fn fill_at(lens: &mut [u32], at: usize, n: usize, len: u32)
-    requires { at + n ≤ length lens.old }
-    ensures { lens.new ≡ put lens.old at (replicate n len) }
-{
-    let mut i = 0;
-    while i < n {
-        lens[at + i] = len;
-        i += 1;
-    }
+    1 <= count
+        && !header::too_many(count)
+        && least <= 1
+        && header_len <= MOST_BYTES
+        && count * least <= header_len
 }
 
 // A list of count lengths in 126 places: the first, and one for all others.
@@ -60,7 +38,7 @@ fn list_of(first: u32, count: usize, others: u32) -> [u32; 126]
     ensures { result ≡ (first ∷ replicate (count - 1) others) ++ replicate (126 - count) 0 }
 {
     let mut lens = [0u32; 126];
-    fill_at(&mut lens, 1, count - 1, others);
+    lens[..count].fill(others);
     lens[0] = first;
     lens
 }
@@ -73,7 +51,7 @@ pub fn header_list(header_len: usize, count: usize, least: usize) -> HeaderList
 {
     if !is_plan(header_len, count, least) {
         return HeaderList {
-            answer: Answer::Refused(Refusal::HeaderPlan),
+            answer: Err(Refusal::HeaderPlan),
             lens: [0u32; 126],
             blocks: 0,
         };
@@ -82,7 +60,7 @@ pub fn header_list(header_len: usize, count: usize, least: usize) -> HeaderList
     let first = header_len - (count - 1) * others;
     let lens = list_of(first as u32, count, others as u32);
     HeaderList {
-        answer: Answer::Ok(0),
+        answer: Ok(0),
         lens,
         blocks: header::blocks::of_all(&lens[0..count]),
     }

@@ -1,7 +1,6 @@
--- `cmac::xor_padded` meets its contract: after i turns the first i bytes of the string are xored in, and then 80.
+-- `cmac::xor_padded` meets its contract.
 -- Assumes nothing.
-use mathlib.Core.Path.{sym, ap, ◌∙◌}
-use native.Mathlib.Omega.{arith}
+use Rattle.std.proofs.Common.{sym, ap, ◌∙◌, arith, length}
 use lib.Seq.{take_all}
 use Rattle.octets.specs.Octets.{xors}
 use Rattle.octets.proofs.Strings.{xors_nil}
@@ -9,18 +8,13 @@ use Rattle.cmac.proofs.Laws.{padding_folds, xors_byte, xors_more}
 use Rattle.cmac.proofs.xor_padded.Goals as goal
 
 pub loop-i-init : goal.loop-i-init
-loop-i-init c = (omega arith, sym (xors_nil _))
+loop-i-init c = sym (xors_nil _)
 
 pub loop-i-preserved : goal.loop-i-preserved
-loop-i-preserved c =
-    let now = c.loop-i in
-    let args = c.args in
-    (omega arith, xors_more args.c args.s.now now.i (omega arith) (omega arith) now.invariant.1)
+loop-i-preserved c = xors_more c.args.c c.args.s.now c.loop-i.i (omega arith) (omega arith) c.loop-i.invariant
 
 pub returns : goal.returns
 returns c =
-    let now = c.loop-i in
-    let args = c.args in
-    let s = args.s.now in
-    xors_byte args.c s now.i 0x80 (omega arith) (omega arith) (now.invariant.1 ∙ ap (xors args.c) (take_all now.i s (omega arith)))
-    ∙ padding_folds args.c s
+    let s = c.args.s.now in
+    xors_byte c.args.c s (length s) 0x80 (omega arith) (omega arith) (c.loop-i.invariant ∙ ap (xors c.args.c) (take_all c.loop-i.i s (omega arith)))
+    ∙ padding_folds c.args.c s

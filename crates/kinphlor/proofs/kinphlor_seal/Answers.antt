@@ -9,4 +9,4 @@ returns-then-empty_nonce c = nonce_refused _ _ _ _ _ (sym c.empty_nonce.ensures 
 
 pub returns : goal.returns
 returns c =
-    call_packed _ _ _ _ _ _ (sym c.empty_nonce.ensures ∙ c.if-empty_nonce.false) c.seal-report.ensures c.pack-2.ensures
+    call_packed _ _ _ _ _ _ (sym c.empty_nonce.ensures ∙ c.if-empty_nonce.false) c.seal.ensures c.pack-2.ensures

@@ -1,17 +1,22 @@
--- `octets::same_block` meets its contract: after i turns `diff` is zero where the first i bytes agree, and only there.
+-- `octets::same_block` meets its contract.
 -- Assumes nothing.
-use native.Mathlib.Omega.{arith}
-use mathlib.Core.Path.{◌≡◌}
-use lib.ListN.{length}
+use mathlib.Core.Path.{◌≡◌, ap, ◌∙◌}
+use Prim.Native.Nat.{ℕ}
 use borrow.Author.Rules.{rules}
-use Rattle.octets.proofs.Strings.{differ_more, differ_all}
+use lib.Dec.{eqb}
+use lib.ListN.{length}
+use Rattle.std.specs.List.{fold, zip}
+use Rattle.std.proofs.lemmas.Iterator.{YieldsList-from_slice, YieldsList-from_zip}
+use Rattle.std.proofs.lemmas.Iterator.Consumers.{fold_from_yields_List}
+use Rattle.octets.proofs.Strings.{differ, differ_all}
 use Rattle.octets.proofs.same_block.Goals as goal
-
-pub loop-i-preserved : goal.loop-i-preserved
-loop-i-preserved c = (omega arith, differ_more _ _ _ _ (search rules) (search rules) c.loop-i.invariant.1)
 
 pub returns : goal.returns
 returns c =
-    let a-length : length c.args.a ≡ 16 = search rules in
-    let b-length : length c.args.b ≡ 16 = search rules in
-    differ_all _ _ _ c.loop-i.i (omega arith) (omega arith) c.loop-i.invariant.1
+    let a = c.args.a in
+    let b = c.args.b in
+    let long : length a ≡ length b = search rules in
+    let bits : c.fold.result ≡ fold differ 0 (zip a b) =
+    fold_from_yields_List _ differ 0 _ c.fold.ensures.ran
+    (YieldsList-from_zip (YieldsList-from_slice a (search rules)) (YieldsList-from_slice b (search rules))) (λ d p r q k. search rules) in
+    ap (λ (n : ℕ). eqb n 0) bits ∙ differ_all a b 0 long

@@ -1,26 +1,23 @@
 -- `octets::zero_from` meets its contract.
 -- Assumes nothing.
-use mathlib.Core.Path.{ap, sym, ◌∙◌}
-use mathlib.Core.Bool.{Bool, ◌&&◌, and_assoc, and-true}
-use Prim.Native.Nat.{◌+◌}
-use native.Mathlib.Omega.{arith}
-use Rattle.octets.specs.Octets.{all_zero}
-use Rattle.octets.proofs.Zeros.{behind, zero_more, zero_end}
+use mathlib.Core.Path.{◌≡◌, ap, ◌∙◌}
+use Prim.Native.Nat.{ℕ}
+use borrow.Author.Rules.{rules}
+use lib.Bits.{bit_or}
+use lib.Dec.{eqb}
+use lib.ListN.{drop}
+use Rattle.std.specs.List.{fold}
+use Rattle.std.proofs.lemmas.Iterator.{YieldsList-from_slice}
+use Rattle.std.proofs.lemmas.Iterator.Adapters.{YieldsList-from_skip}
+use Rattle.std.proofs.lemmas.Iterator.Consumers.{fold_from_yields_List}
+use Rattle.octets.proofs.Strings.{or_all}
 use Rattle.octets.proofs.zero_from.Goals as goal
-
-pub loop-i-preserved : goal.loop-i-preserved
-loop-i-preserved c =
-    let args = c.args in
-    let turn = c.loop-i in
-    let i = turn.i in
-    let rest = all_zero (behind args.s.now args.at (i + 1)) in
-    turn.invariant
-    ∙ ap (λ (r : Bool). turn.zero && r) (zero_more args.s.now args.at i (omega arith))
-    ∙ sym (and_assoc turn.zero _ rest)
-    ∙ ap (λ (z : Bool). z && rest) (sym c.still_zero-zero.ensures)
 
 pub returns : goal.returns
 returns c =
-    let args = c.args in
-    let turn = c.loop-i in
-    sym (turn.invariant ∙ ap (λ (r : Bool). turn.zero && r) (zero_end args.s.now args.at turn.i (omega arith)) ∙ and-true turn.zero)
+    let s = c.args.s.now in
+    let at = c.args.at in
+    let bits : c.fold.result ≡ fold bit_or 0 (drop at s) =
+    fold_from_yields_List _ bit_or 0 _ c.fold.ensures.ran (YieldsList-from_skip at (YieldsList-from_slice s (search rules)) (search rules))
+    (λ a x b q k. search rules) in
+    ap (λ (n : ℕ). eqb n 0) bits ∙ or_all (drop at s) 0

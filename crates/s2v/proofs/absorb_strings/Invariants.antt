@@ -1,18 +1,13 @@
--- `s2v::absorb_strings` meets its contract: after i turns i strings are absorbed, and the reader stands behind them.
+-- `s2v::absorb_strings` meets its contract: after some strings they are absorbed, and the reader stands behind them.
 -- Assumes nothing.
-use Rattle.std.proofs.Common.{◌≡◌, ◌-◌, ◌≤◌, length, take}
-use Rattle.aes.specs.Cipher.{cipher}
-use Rattle.header.specs.Header.{total}
-use Rattle.s2v.proofs.Laws.{absorbed, worked}
+use Rattle.std.proofs.Common.{◌≡◌, take}
+use Rattle.aes.specs.Keyed.{enciphers}
+use Rattle.header.specs.Header.{total, strings}
+use Rattle.s2v.specs.S2v.{IsAbsorbed}
 use Rattle.s2v.proofs.absorb_strings.Given as goal
 
-abbrev pub invariant-loop-i : goal.invariant-loop-i
-invariant-loop-i l =
-    (l.i ≤ length l.lens)
-    × (l.b.block ≡ absorbed (cipher l.width l.keys) l.k l.fn.d.block l.bytes l.lens l.i)
-    × (l.b.work ≡ worked l.fn.d.work l.bytes l.lens l.i)
+abbrev pub invariant-loop-len : goal.invariant-loop-len
+invariant-loop-len l =
+    IsAbsorbed (enciphers l.mac.cipher) l.mac.subkeys l.fn.d (strings l.bytes (take l.len-index l.lens)) l.b
     × (l.reader.bytes.now ≡ l.bytes)
-    × (l.reader.at ≡ total (take l.i l.lens))
-
-abbrev pub decreases-loop-i : goal.decreases-loop-i
-decreases-loop-i l = length l.lens - l.i
+    × (l.reader.at ≡ total (take l.len-index l.lens))

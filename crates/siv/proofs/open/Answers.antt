@@ -4,21 +4,19 @@ use mathlib.Core.Path.{◌≡◌, sym}
 use Prim.Native.Nat.{◌-◌}
 use native.Mathlib.Omega.{arith}
 use lib.ListN.{length}
-use Rattle.answers.proofs.Laws.{arm_ok, arm_refused, passed}
 use Rattle.whole.specs.Siv.{opened}
 use Rattle.whole.proofs.Laws.{open_judged, OpenAdmits, open_admits, open_refused, open_released, length-opened, put_rest, text_read, scratch_wiped}
 use Rattle.siv.proofs.open.Goals as goal
 
-pub returns-in-Refused : goal.returns-in-Refused
-returns-in-Refused c = open_refused _ _ _ _ _ _ _ (arm_refused _ _ c.in-Refused.is) c.judge_open-answer.ensures
+pub returns-in-Err : goal.returns-in-Err
+returns-in-Err c = open_refused _ _ _ _ _ _ c.in-Err.refusal c.in-Err.ensures
 
 pub returns : goal.returns
 returns c =
     let args = c.args in
     let key = args.key.now in
     let y = args.input.now in
-    let judged : open_judged key args.header.now args.lens.now y args.output.now args.scratch.now ≡ 0 =
-    passed _ _ (arm_ok _ _ c.in_default.is) c.judge_open-answer.ensures in
+    let judged : open_judged key args.header.now args.lens.now y args.output.now args.scratch.now ≡ 0 = sym c.in_default.ensures in
     let admits : OpenAdmits key args.header.now args.lens.now y args.output.now args.scratch.now = open_admits _ _ _ _ _ _ judged in
     let text = opened key y in
     let long : length text ≡ length y - 16 = length-opened key y in

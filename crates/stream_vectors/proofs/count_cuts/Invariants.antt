@@ -1,10 +1,7 @@
 -- `stream_vectors::count_cuts` meets its contract.
 -- Assumes nothing.
-use Rattle.std.proofs.Common.{◌-◌, ◌*◌, ◌≤◌}
+use Rattle.std.proofs.Common.{◌*◌, ◌≤◌}
 use Rattle.stream_vectors.proofs.count_cuts.Given as goal
 
 abbrev pub invariant-loop-b : goal.invariant-loop-b
-invariant-loop-b l = (l.b ≤ 48) × (l.count ≤ 48 * l.b)
-
-abbrev pub decreases-loop-b : goal.decreases-loop-b
-decreases-loop-b l = 48 - l.b
+invariant-loop-b l = l.count ≤ 48 * l.b
