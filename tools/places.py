@@ -10,7 +10,7 @@ root = pathlib.Path(next((a for a in sys.argv[1:] if a != '-v'), '.'))
 lines = []      # (place, text without comment)
 functions = []  # (place, name, parameters, clauses, body)
 
-FN = re.compile(r'^( *)(?:pub(?:\(crate\))? )?(?:extern "C" )?fn (\w+)(?:<[^>]*>)?\((.*?)\)((?: ->[^{]*?)?)\s*'
+FN = re.compile(r'^( *)(?:pub(?:\(crate\))? )?(?:extern "C" )?fn (\w+)(?:<.*?>)?\((.*?)\)((?: ->[^{]*?)?)\s*'
                 r'((?:^ *(?:requires|ensures)\*?[^\n]*\n)*)\s*\{\n(.*?)^\1\}$', re.S | re.M)
 
 for path in sorted(root.glob('crates/*/src/*.rt')):

@@ -2,7 +2,7 @@
 ghost use Rattle.std.specs.Prelude.{◌≤◌};
 
 use crate::{opened, show, show_answer};
-use head::{Head, Made};
+use head::Head;
 use rfc5297::{A2_HEADER, A2_KEY, A2_LENS, A2_PLAINTEXT};
 use std::io;
 use stream::{Step, Stream};
@@ -70,11 +70,6 @@ impl First {
     }
 }
 
-// Prints a label and the number of making's answer.
-fn show_made(out: &impl Print, label: &[u8], made: Made) -> io::Result<()> {
-    show_answer(out, label, made.answer)
-}
-
 // A sealer's begin.
 fn begin(head: Head, rest: &[u8], lens: &[u32]) -> Step {
     Stream::begin_sealer_from(head, rest, lens)
@@ -83,22 +78,18 @@ fn begin(head: Head, rest: &[u8], lens: &[u32]) -> Step {
 // Arguments that make and extend refuse.
 fn refused_heads(out: &impl Print) -> io::Result<()> {
     let empty = [0u32; 127];
-    show_made(
-        out,
-        b"  key of 31 bytes",
-        Head::make(&A2_KEY[0..31], &A2_HEADER, &A2_LENS),
-    )?;
-    show_made(out, b"  127 strings", Head::make(&A2_KEY, &[], &empty))?;
-    show_made(
+    let short = Head::make(&A2_KEY[0..31], &A2_HEADER, &A2_LENS);
+    show_answer(out, b"  key of 31 bytes", short.answer)?;
+    let many = Head::make(&A2_KEY, &[], &empty);
+    show_answer(out, b"  127 strings", many.answer)?;
+    let fewer = Head::make(&A2_KEY, &A2_HEADER, &A2_LENS[0..2]);
+    show_answer(
         out,
         b"  lengths that do not sum to the header",
-        Head::make(&A2_KEY, &A2_HEADER, &A2_LENS[0..2]),
+        fewer.answer,
     )?;
-    show_made(
-        out,
-        b"  126 strings behind one",
-        First { n: 1 }.head().extend(&[], &empty[0..126]),
-    )
+    let more = First { n: 1 }.head().extend(&[], &empty[0..126]);
+    show_answer(out, b"  126 strings behind one", more.answer)
 }
 
 // Heads that no call gives: the two things that 9 judges, and one that is used as it is.
