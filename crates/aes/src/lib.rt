@@ -28,7 +28,7 @@ impl Engine {
     }
 }
 
-// The round keys of all rounds, in memory of a fixed size: those past a key's own rounds are zero.
+// The round keys of all rounds, in memory of a fixed size: 15 of 16 bytes, of which a shorter key has fewer.
 pub type RoundKeys = [u8; 240];
 
 // A block, and with how many cipher calls it was made.

@@ -25,10 +25,10 @@ impl State {
         ensures { result ≡ bytes_of self }
     {
         let mut block = [0u8; 16];
-        octets::copy_at(&mut block, 0, &self.c0.to_le_bytes());
-        octets::copy_at(&mut block, 4, &self.c1.to_le_bytes());
-        octets::copy_at(&mut block, 8, &self.c2.to_le_bytes());
-        octets::copy_at(&mut block, 12, &self.c3.to_le_bytes());
+        block[..4].copy_from_slice(&self.c0.to_le_bytes());
+        block[4..8].copy_from_slice(&self.c1.to_le_bytes());
+        block[8..12].copy_from_slice(&self.c2.to_le_bytes());
+        block[12..].copy_from_slice(&self.c3.to_le_bytes());
         block
     }
 

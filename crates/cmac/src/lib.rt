@@ -117,6 +117,18 @@ fn blocks_before(n: usize) -> usize
     n.saturating_sub(1) / 16
 }
 
+// The chain from c over the n blocks before a slice's last: where there is none it is c, without a call of `chain_blocks`.
+#[tactic(auto, unfolding(crate::specs::Cmac::chain, crate::specs::Cmac::chain_work))]
+fn chain_before(cipher: Cipher, c: Block, s: &[u8], n: usize) -> Counted
+    requires { 16 * n ≤ length s.now }
+    ensures { Reports (chain (enciphers cipher.entry) c s.now n) (chain_work n) result }
+{
+    if n == 0 {
+        return Counted { block: c, work: 0 };
+    }
+    chain_blocks(cipher, c, s, n)
+}
+
 impl Mac<'_, '_> {
     ghost use Rattle.aes.specs.Keyed.{enciphers};
     ghost use Rattle.cmac.specs.Cmac.{IsCmacFrom};
@@ -126,7 +138,7 @@ impl Mac<'_, '_> {
         ensures { IsCmacFrom (enciphers self.entry.cipher) self.entry.subkeys c s.now result }
     {
         let n = blocks_before(s.len());
-        let before = chain_blocks(self.cipher, c, s, n);
+        let before = chain_before(self.cipher, c, s, n);
         let last = xor_last(self.subkeys, before.block, &s[16 * n..]);
         let end = self.cipher.encrypt(last);
         Counted {

@@ -25,7 +25,7 @@ pub fn too_many(count: usize) -> bool
     MOST < count
 }
 
-// The length of string i. No crate calls it; a wrong program is about its promise.
+// The length of string i.
 pub fn length_at(lens: &[u32], i: usize) -> usize
     requires { i < length lens.now }
     ensures { result ≡ get_or lens.now i 0 }
@@ -39,8 +39,8 @@ pub fn sums_to(lens: &[u32], n: usize) -> bool
     ensures { result ≡ eqb (total lens.now) n }
 {
     let mut rest = n;
-    for len in lens {
-        let len = *len as usize;
+    for i in 0..lens.len() {
+        let len = length_at(lens, i);
         if rest < len {
             return false;
         }

@@ -7,13 +7,15 @@ ghost use Rattle.octets.specs.Octets.{xors, part, same, all_zero, Writes};
 // A block: 16 bytes, byte 0 first.
 pub type Block = [u8; 16];
 
-// Copies all of src to place at of a slice.
-#[tactic(auto, using(crate::proofs::Strings::put_mid_put))]
+// Copies all of src to place at of a slice. No `copy_from_slice`: of a length that is not fixed it is the C library's
+// `memmove`, and the archive asks for `memcpy` and `memset` alone.
 pub fn copy_at(dst: &mut [u8], at: usize, src: &[u8])
     requires { at + length src.now ≤ length dst.old }
     ensures { Writes dst at src.now }
 {
-    dst[at..at + src.len()].copy_from_slice(src);
+    for i in 0..src.len() {
+        dst[at + i] = src[i];
+    }
 }
 
 // Copies n bytes from a place of two joined strings to the front of a slice.
@@ -92,5 +94,5 @@ pub fn same_block(a: Block, b: Block) -> bool
 pub fn zero_from(s: &[u8], at: usize) -> bool
     ensures { result ≡ all_zero (drop at s.now) }
 {
-    s.iter().skip(at).fold(0, |bits, b| bits | b) == 0
+    s[at.min(s.len())..].iter().fold(0, |bits, b| bits | b) == 0
 }

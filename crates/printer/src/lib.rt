@@ -24,8 +24,11 @@ pub fn line(out: &impl Print, label: &[u8], bytes: &[u8]) -> io::Result<()> {
     text(out, b"\n")
 }
 
-// Writes bytes in hexadecimal, sixteen to a line.
+// Writes bytes in hexadecimal, sixteen to a line; of no bytes one empty row.
 pub fn rows(out: &impl Print, bytes: &[u8]) -> io::Result<()> {
+    if bytes.is_empty() {
+        return line(out, b"   ", bytes);
+    }
     for row in bytes.chunks(16) {
         line(out, b"   ", row)?;
     }

@@ -7,7 +7,8 @@ use head::Head;
 // How many bytes a head has: width 8, two times 240, two times 16, count 8.
 pub(crate) const LEN: usize = 528;
 
-// The head that bytes stand for, if they are as many as a head has.
+// The head that bytes stand for, if they are as many as a head has. Inlined, so that it is not copied once more.
+#[inline(always)]
 pub(crate) fn load(s: &[u8]) -> Option<Head> {
     if s.len() != LEN {
         return None;

@@ -8,7 +8,8 @@ use stream::Stream;
 // 8 each, tail 31.
 pub(crate) const LEN: usize = 624;
 
-// The state that bytes stand for, if they are as many as a state has.
+// The state that bytes stand for, if they are as many as a state has. Inlined, so that it is not copied once more.
+#[inline(always)]
 pub(crate) fn load(s: &[u8]) -> Option<Stream> {
     if s.len() != LEN {
         return None;

@@ -39,8 +39,8 @@ pub fn absorb_strings(mac: Mac, d: Counted, bytes: &[u8], lens: &[u32]) -> Count
 {
     let mut b = d;
     let mut reader = Reader::new(bytes, 0);
-    for len in lens {
-        let n = *len as usize;
+    for i in 0..lens.len() {
+        let n = header::length_at(lens, i);
         b = absorb_string(mac, b, reader.next(n));
         reader = reader.moved(n);
     }

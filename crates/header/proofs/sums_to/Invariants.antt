@@ -6,5 +6,5 @@ use lib.ListN.{take}
 use Rattle.header.specs.Header.{total}
 use Rattle.header.proofs.sums_to.Given as goal
 
-abbrev pub invariant-loop-len : goal.invariant-loop-len
-invariant-loop-len l = total (take l.len-index l.lens) + l.rest ≡ l.n
+abbrev pub invariant-loop-i : goal.invariant-loop-i
+invariant-loop-i l = total (take l.i l.lens) + l.rest ≡ l.n

@@ -1,5 +1,6 @@
 -- `ring::open_ring` meets its contract.
 -- Assumes nothing.
+use borrow.Author.Rules.{rules}
 use mathlib.Core.Path.{sym, refl}
 use Rattle.whole.proofs.Ring.{key_length_some, ring_passed, ring_refused, ring_released}
 use Rattle.ring.proofs.open_ring.Goals as goal
@@ -21,4 +22,4 @@ pub returns : goal.returns
 returns c =
     let tried = c.try_slots-found.ensures in
     let ended = c.release_or_wipe.ensures in
-    ring_released _ _ _ _ _ _ _ (sym c.in_default.ensures) _ tried.found _ _ _ _ _ c.unwrap_or.ensures c.is_some.ensures refl tried.text ended.outcome ended.output tried.rest ended.scratch
+    ring_released _ _ _ _ _ _ _ (sym c.in_default.ensures) _ tried.found _ _ _ _ _ c.unwrap_or.ensures (search rules) refl tried.text ended.outcome ended.output tried.rest ended.scratch

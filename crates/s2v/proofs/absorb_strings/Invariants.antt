@@ -6,8 +6,8 @@ use Rattle.header.specs.Header.{total, strings}
 use Rattle.s2v.specs.S2v.{IsAbsorbed}
 use Rattle.s2v.proofs.absorb_strings.Given as goal
 
-abbrev pub invariant-loop-len : goal.invariant-loop-len
-invariant-loop-len l =
-    IsAbsorbed (enciphers l.mac.cipher) l.mac.subkeys l.fn.d (strings l.bytes (take l.len-index l.lens)) l.b
+abbrev pub invariant-loop-i : goal.invariant-loop-i
+invariant-loop-i l =
+    IsAbsorbed (enciphers l.mac.cipher) l.mac.subkeys l.fn.d (strings l.bytes (take l.i l.lens)) l.b
     × (l.reader.bytes.now ≡ l.bytes)
-    × (l.reader.at ≡ total (take l.len-index l.lens))
+    × (l.reader.at ≡ total (take l.i l.lens))

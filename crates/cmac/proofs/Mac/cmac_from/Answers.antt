@@ -9,13 +9,13 @@ use Rattle.cmac.proofs.Mac.cmac_from.Goals as goal
 pub overflow_add-result : goal.overflow_add-result
 overflow_add-result c =
     let short : length c.args.s.now < 2 ^ 64 = search rules in
-    omega (arith, c.chain_blocks-before.ensures.work ∙ chain_work_lem _, short)
+    omega (arith, c.chain_before-before.ensures.work ∙ chain_work_lem _, short)
 
 pub returns : goal.returns
 unfolding cmac_from
 returns c =
     let s = c.args.s.now in
     record {
-      block = simp (c.encrypt-end.ensures.block, c.xor_last-last.ensures, c.chain_blocks-before.ensures.block, c.blocks_before-n.ensures, take_rest) refl;
-      work = omega (arith, c.chain_blocks-before.ensures.work ∙ chain_work_lem _, cmac_work_lem s);
+      block = simp (c.encrypt-end.ensures.block, c.xor_last-last.ensures, c.chain_before-before.ensures.block, c.blocks_before-n.ensures, take_rest) refl;
+      work = omega (arith, c.chain_before-before.ensures.work ∙ chain_work_lem _, cmac_work_lem s);
     }
